@@ -2,10 +2,10 @@
 use mathlib.Core.Bool.{cond}
 use Prim.Native.Nat.{ℕ}
 use lib.Dec.{ltb}
+use Rattle.std.specs.Options.{okOr}
 use Rattle.std.specs.declared.option.Option.{Option}
 use Rattle.std.specs.declared.option.Option.the-variants.{Some, None}
 use Rattle.std.specs.declared.result.Result.{Result}
-use Rattle.std.specs.declared.result.Result.the-variants.{Ok, Err}
 use Rattle.symbols.specs.declared.fault.SymbolFault.{SymbolFault}
 use Rattle.symbols.specs.declared.fault.SymbolFault.the-variants.{NotWhole, NoMeaning}
 use Rattle.symbols.specs.declared.fault.AreaRefusal.{AreaRefusal}
@@ -21,8 +21,7 @@ area-number ShortArea = 23
 
 -- reading: the symbol that the characters mean, or fault 2 if they mean none
 abbrev pub read-as : {X : Type 0} → Option X → Result X SymbolFault
-read-as (Some x) = Ok x
-read-as None = Err NoMeaning
+read-as o = okOr o NoMeaning
 
 -- an area of `room` places is refused where more are wanted
 abbrev pub short-of : ℕ → ℕ → Option AreaRefusal

@@ -1,0 +1,3 @@
+pub mod BusLaws
+pub mod HexLaws
+pub mod LogLaws

@@ -1,0 +1,4 @@
+pub mod Order
+pub mod Tree
+pub mod Pattern
+pub mod Enumeration

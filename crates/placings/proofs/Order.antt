@@ -59,7 +59,7 @@ all-front : {X : Type 0} (P : X → Type 0) (xs ys : List X) → All P (xs ++ ys
 all-front P [] ys h = tt
 all-front P (x ∷ xs) ys h = (h .0, all-front P xs ys (h .1))
 
-all-back : {X : Type 0} (P : X → Type 0) (xs ys : List X) → All P (xs ++ ys) → All P ys
+pub all-back : {X : Type 0} (P : X → Type 0) (xs ys : List X) → All P (xs ++ ys) → All P ys
 all-back P [] ys h = h
 all-back P (x ∷ xs) ys h = all-back P xs ys (h .1)
 

@@ -1,8 +1,8 @@
 -- Scan order is a strict total order; ascending lists, and how many stand in them up to one of theirs. Assumes nothing.
-use mathlib.Core.Path.{_≡_, refl, sym, ap, subst, _∙_}
+use mathlib.Core.Path.{_≡_, refl, sym, subst, _∙_}
 use mathlib.Core.List.{List, [], _∷_, _++_}
 use mathlib.Core.Logic.{_⊎_, inl, inr}
-use Prim.Native.Nat.{ℕ, _+_, _<_}
+use Prim.Native.Nat.{ℕ, zero, suc, _+_, _<_, _≤_}
 use native.Mathlib.Omega.{arith}
 use lib.ListN.{length, length-append}
 use Rattle.std.specs.shelf.Lists.{All, Has}
@@ -106,3 +106,27 @@ module _ (p : List ℕ) (ys : List (List ℕ)) where
 pub number-like : (P Q : List ℕ → Type 0) (n : ℕ) → ((q : List ℕ) → P q → Q q) → ((q : List ℕ) → Q q → P q) → Number P n → Number Q n
 number-like P Q n to from h =
     record { listed = h .listed; counted = h .counted; ascending = h .ascending; sound = all-weaker P Q to (h .listed) (h .sound); complete = λ q k. h .complete q (from q k) }
+
+has-cases : {X : Type 0} (y x : X) (ys : List X) → Has (y ∷ ys) x → (y ≡ x) ⊎ Has ys x
+has-cases y x ys (zero, l, at) = inl (at y)
+has-cases y x ys (suc k, l, at) = inr (k, omega arith, at)
+
+-- an ascending list is no longer than one that holds all of it
+no-longer : (xs ys : List (List ℕ)) → Ascending xs → Ascending ys → All (Has ys) xs → length xs ≤ length ys
+no-longer [] ys a b h = omega arith
+no-longer (x ∷ xs) [] a b h = absurd (omega (arith, h .0 .1))
+no-longer (x ∷ xs) (y ∷ ys) a b h =
+    let k = no-longer xs ys (a .1) (b .1) (all-weaker (λ z. Before x z × Has (y ∷ ys) z) (Has ys) (λ z r. later z (r .0) (has-cases y z ys (r .1))) xs (all-both (Before x) (Has (y ∷ ys)) xs (a .0) (h .1))) in
+    omega arith
+  where
+    not-ahead : (y ≡ x) ⊎ Has ys x → (y ≡ x) ⊎ Before y x
+    not-ahead (inl e) = inl e
+    not-ahead (inr k) = inr (all-has (Before y) ys x (b .0) k)
+
+    later : (z : List ℕ) → Before x z → (y ≡ z) ⊎ Has ys z → Has ys z
+    later z l (inl e) = absurd (not-after x y (not-ahead (has-cases y x ys (h .0))) (rw e l))
+    later z l (inr k) = k
+
+-- there is one number at most
+pub one-number : (P : List ℕ → Type 0) (n k : ℕ) → Number P n → Number P k → n ≡ k
+one-number P n k g h = omega (arith, g .counted, h .counted, no-longer (g .listed) (h .listed) (g .ascending) (h .ascending) (all-weaker P (Has (h .listed)) (h .complete) (g .listed) (g .sound)), no-longer (h .listed) (g .listed) (h .ascending) (g .ascending) (all-weaker P (Has (g .listed)) (g .complete) (h .listed) (h .sound)))

@@ -1,6 +1,6 @@
 -- The count of the enumeration is the number of trials. Assumes nothing.
 use mathlib.Core.Path.{_≡_, refl, sym, subst}
-use mathlib.Core.List.{List, _∷_, _++_}
+use mathlib.Core.List.{List}
 use mathlib.Core.Bool.{Bool}
 use mathlib.Core.Logic.{_⊎_, inl, inr}
 use Prim.Native.Nat.{ℕ, _+_}
@@ -11,8 +11,8 @@ use Rattle.symbols.specs.declared.role.Role.{Role}
 use Rattle.placings.specs.declared.mode.Mode.{Mode}
 use Rattle.placings.specs.Pattern.{Element}
 use Rattle.placings.specs.Order.{Before, Number}
-use Rattle.placings.specs.Placing.{Partial, Placing, Unplaced, Earliest, UpTo, Trial}
-use Rattle.placings.specs.Enumeration.{partials, first, count}
+use Rattle.placings.specs.Placing.{Partial, Earliest, UpTo, Trial}
+use Rattle.placings.specs.Enumeration.{partials, verdict, tried}
 use Rattle.placings.specs.Theorems.{Enumerates, Decided, Counted}
 use Rattle.placings.proofs.Order.{strict-total, not-after, number-to, number-like}
 use Rattle.placings.proofs.Verdict.{cut-at, decided}
@@ -35,11 +35,11 @@ module _ {A : Type 0} {role : A → Role} {mode : Mode} {s : List A} {pattern : 
       reach (inr (inr b)) = absurd (t .ahead p (h .placed) b)
 
 module _ {A : Type 0} (eq : A → A → Bool) (role : A → Role) (mode : Mode) (s : List A) (pattern : List (Element A)) (en : Enumerates eq role mode s pattern) where
-  number-all : first (length pattern) (partials eq role mode s pattern) ≡ None → Number (Partial role mode s pattern) (count (length pattern) (partials eq role mode s pattern))
+  number-all : verdict eq role mode s pattern ≡ None → Number (Partial role mode s pattern) (tried eq role mode s pattern)
   number-all e =
       record { listed = partials eq role mode s pattern; counted = sym (cut-at (length pattern) (partials eq role mode s pattern) None e .1); ascending = en .ascending; sound = en .sound; complete = en .complete }
 
-  number-up-to : (p : List ℕ) → first (length pattern) (partials eq role mode s pattern) ≡ Some p → Number (UpTo role mode s pattern p) (count (length pattern) (partials eq role mode s pattern))
+  number-up-to : (p : List ℕ) → verdict eq role mode s pattern ≡ Some p → Number (UpTo role mode s pattern p) (tried eq role mode s pattern)
   number-up-to p e =
       let f = cut-at (length pattern) (partials eq role mode s pattern) (Some p) e in
       rw (f .counted)
@@ -51,12 +51,12 @@ module _ {A : Type 0} (eq : A → A → Bool) (role : A → Role) (mode : Mode) 
       record {
         up-to = λ p h. number-up-to p (d .reached p h);
         all = λ h. number-all (d .only h);
-        trials = go (first (length pattern) (partials eq role mode s pattern)) refl;
+        trials = go (verdict eq role mode s pattern) refl;
       }
     where
       d : Decided eq role mode s pattern
       d = decided eq role mode s pattern en
 
-      go : (o : Option (List ℕ)) → first (length pattern) (partials eq role mode s pattern) ≡ o → Number (Trial role mode s pattern) (count (length pattern) (partials eq role mode s pattern))
+      go : (o : Option (List ℕ)) → verdict eq role mode s pattern ≡ o → Number (Trial role mode s pattern) (tried eq role mode s pattern)
       go None e = number-like (Partial role mode s pattern) (Trial role mode s pattern) _ (λ q h. record { partially = h; ahead = λ p k b. d .none e p k }) (λ q h. h .partially) (number-all e)
       go (Some p) e = number-like (UpTo role mode s pattern p) (Trial role mode s pattern) _ (trial-from p (d .earliest p e)) (trial-up-to p (d .earliest p e)) (number-up-to p e)

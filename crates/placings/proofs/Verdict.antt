@@ -19,7 +19,7 @@ use Rattle.placings.specs.declared.mode.Mode.{Mode}
 use Rattle.placings.specs.Pattern.{Element}
 use Rattle.placings.specs.Order.{Before, Ascending}
 use Rattle.placings.specs.Placing.{Partial, Placing, Unplaced, Earliest}
-use Rattle.placings.specs.Enumeration.{partials, first, count}
+use Rattle.placings.specs.Enumeration.{partials, first, count, verdict}
 use Rattle.placings.specs.Theorems.{Enumerates, Decided}
 use Rattle.placings.proofs.Order.{apart, all-back, behind-after}
 
@@ -77,10 +77,10 @@ module _ {A : Type 0} (eq : A → A → Bool) (role : A → Role) (mode : Mode) 
       (all-weaker (Short (length pattern)) (Later p) (λ q n l. absurd (n l)) xs h)
       ((λ _. inl refl), all-weaker (Before p) (Later p) (λ q b _. inr b) ys (behind-after p ys xs a))
 
-  unplaced : first (length pattern) (partials eq role mode s pattern) ≡ None → Unplaced role mode s pattern
+  unplaced : verdict eq role mode s pattern ≡ None → Unplaced role mode s pattern
   unplaced e q h = all-has (Short (length pattern)) (partials eq role mode s pattern) q (cut-at (length pattern) (partials eq role mode s pattern) None e .0) (en .complete q (h .partially)) (h .whole)
 
-  earliest : (p : List ℕ) → first (length pattern) (partials eq role mode s pattern) ≡ Some p → Earliest role mode s pattern p
+  earliest : (p : List ℕ) → verdict eq role mode s pattern ≡ Some p → Earliest role mode s pattern p
   earliest p e =
       let f = cut-at (length pattern) (partials eq role mode s pattern) (Some p) e in
       record {
@@ -92,15 +92,20 @@ module _ {A : Type 0} (eq : A → A → Bool) (role : A → Role) (mode : Mode) 
   decided =
       record {
         none = unplaced;
-        only = λ h. nothing h (first (length pattern) (partials eq role mode s pattern)) refl;
+        only = λ h. nothing h (verdict eq role mode s pattern) refl;
+        some = λ q h. something q h (verdict eq role mode s pattern) refl;
         earliest = earliest;
-        reached = λ p h. it p h (first (length pattern) (partials eq role mode s pattern)) refl;
+        reached = λ p h. it p h (verdict eq role mode s pattern) refl;
       }
     where
-      nothing : Unplaced role mode s pattern → (o : Option (List ℕ)) → first (length pattern) (partials eq role mode s pattern) ≡ o → o ≡ None
+      nothing : Unplaced role mode s pattern → (o : Option (List ℕ)) → verdict eq role mode s pattern ≡ o → o ≡ None
       nothing h None e = refl
       nothing h (Some p) e = absurd (h p (earliest p e .placed))
 
-      it : (p : List ℕ) → Earliest role mode s pattern p → (o : Option (List ℕ)) → first (length pattern) (partials eq role mode s pattern) ≡ o → o ≡ Some p
+      something : (q : List ℕ) → Placing role mode s pattern q → (o : Option (List ℕ)) → verdict eq role mode s pattern ≡ o → (p : List ℕ) × (o ≡ Some p)
+      something q h None e = absurd (unplaced e q h)
+      something q h (Some p) e = (p, refl)
+
+      it : (p : List ℕ) → Earliest role mode s pattern p → (o : Option (List ℕ)) → verdict eq role mode s pattern ≡ o → o ≡ Some p
       it p h None e = absurd (unplaced e p (h .placed))
       it p h (Some q) e = ap Some (one-earliest q p (earliest q e) h)

@@ -90,3 +90,15 @@ tells (Some p) t = success p t
 -- what a scan over the partial placings xs of m elements answers at an allowance of trials
 abbrev pub answer : ℕ → ℕ → List (List ℕ) → Told
 answer m allowance xs = cond (leb (count m xs) allowance) (tells (first m xs) (count m xs)) spent
+
+-- the scan's verdict: the first placing, if there is one
+abbrev pub verdict : {A : Type 0} → (A → A → Bool) → (A → Role) → Mode → List A → List (Element A) → Option (List ℕ)
+verdict eq role mode s pattern = first (length pattern) (partials eq role mode s pattern)
+
+-- how many partial placings the scan tries
+abbrev pub tried : {A : Type 0} → (A → A → Bool) → (A → Role) → Mode → List A → List (Element A) → ℕ
+tried eq role mode s pattern = count (length pattern) (partials eq role mode s pattern)
+
+-- the scan's answer at an allowance of trials
+abbrev pub scanned : {A : Type 0} → (A → A → Bool) → (A → Role) → Mode → List A → List (Element A) → ℕ → Told
+scanned eq role mode s pattern allowance = answer (length pattern) allowance (partials eq role mode s pattern)

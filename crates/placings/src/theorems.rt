@@ -1,6 +1,6 @@
 // The theorems on placings, for every type of symbols, every test of their equality, every assignment of roles, every mode, subject and pattern.
 ghost use Rattle.placings.specs.Order.{StrictTotal};
-ghost use Rattle.placings.specs.Theorems.{Answered, Counted, Decided, Enumerates, ForAll};
+ghost use Rattle.placings.specs.Theorems.{Answered, Counted, Decided, Determined, Enumerates, ForAll};
 
 // Runs nothing: its contract is what it is for.
 pub fn placings_stand<T>()
@@ -9,4 +9,5 @@ pub fn placings_stand<T>()
     ensures verdict { λ _. ⌜ ForAll T Decided ⌝ }
     ensures trials { λ _. ⌜ ForAll T Counted ⌝ }
     ensures answer { λ _. ⌜ ForAll T Answered ⌝ }
+    ensures only { λ _. ⌜ ForAll T Determined ⌝ }
 {}

@@ -70,7 +70,9 @@ module _ {A : Type 0} (eq : A → A → Bool) (dec : Equality A eq) (role : A �
   unfolding paths
   enumerates =
       record {
-        sound = all-weaker _ (Partial role mode s pattern) (λ q u. rw (u .2) (partial-from (u .0 ∷ u .1) (omega arith) (omega (arith, u .3)) (u .4))) (partials eq role mode s pattern) (below-sound (may eq role mode s pattern) (length s) (suc (length pattern)) []);
+        sound =
+            all-weaker _ (Partial role mode s pattern) (λ q u. rw (u .2) (partial-from (u .0 ∷ u .1) (omega arith) (omega (arith, u .3)) (u .4))) (partials eq role mode s pattern)
+            (below-sound (may eq role mode s pattern) (length s) (suc (length pattern)) []);
         complete = listed;
         ascending = below-ascending (may eq role mode s pattern) (length s) (suc (length pattern)) [];
       }

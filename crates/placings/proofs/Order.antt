@@ -98,7 +98,10 @@ module _ (p : List ℕ) (ys : List (List ℕ)) where
         listed = xs ++ p ∷ [];
         counted = length-append xs (p ∷ []);
         ascending = ascends-to xs a;
-        sound = all-push (λ q. P q × ((q ≡ p) ⊎ Before q p)) xs p (all-both P (λ q. (q ≡ p) ⊎ Before q p) xs (all-front P xs (p ∷ ys) h) (all-weaker (λ q. Before q p) (λ q. (q ≡ p) ⊎ Before q p) (λ q. inr) xs (ahead-before xs a))) (all-back P xs (p ∷ ys) h .0, inl refl);
+        sound =
+            all-push (λ q. P q × ((q ≡ p) ⊎ Before q p)) xs p
+            (all-weaker (λ q. P q × Before q p) _ (λ q k. (k .0, inr (k .1))) xs (all-both P (λ q. Before q p) xs (all-front P xs (p ∷ ys) h) (ahead-before xs a)))
+            (all-back P xs (p ∷ ys) h .0, inl refl);
         complete = λ q k. all-has (Reached xs) (xs ++ p ∷ ys) q (all-reached xs a) (c q (k .0)) (k .1);
       }
 
@@ -116,17 +119,21 @@ no-longer : (xs ys : List (List ℕ)) → Ascending xs → Ascending ys → All 
 no-longer [] ys a b h = omega arith
 no-longer (x ∷ xs) [] a b h = absurd (omega (arith, h .0 .1))
 no-longer (x ∷ xs) (y ∷ ys) a b h =
-    let k = no-longer xs ys (a .1) (b .1) (all-weaker (λ z. Before x z × Has (y ∷ ys) z) (Has ys) (λ z r. later z (r .0) (has-cases y z ys (r .1))) xs (all-both (Before x) (Has (y ∷ ys)) xs (a .0) (h .1))) in
+    let k = no-longer xs ys (a .1) (b .1) (all-weaker (λ z. Before x z × Has (y ∷ ys) z) (Has ys) later xs (all-both (Before x) (Has (y ∷ ys)) xs (a .0) (h .1))) in
     omega arith
   where
     not-ahead : (y ≡ x) ⊎ Has ys x → (y ≡ x) ⊎ Before y x
     not-ahead (inl e) = inl e
     not-ahead (inr k) = inr (all-has (Before y) ys x (b .0) k)
 
-    later : (z : List ℕ) → Before x z → (y ≡ z) ⊎ Has ys z → Has ys z
-    later z l (inl e) = absurd (not-after x y (not-ahead (has-cases y x ys (h .0))) (rw e l))
-    later z l (inr k) = k
+    later : (z : List ℕ) → Before x z × Has (y ∷ ys) z → Has ys z
+    later z r = elim (has-cases y z ys (r .1)) [ inl e ↦ absurd (not-after x y (not-ahead (has-cases y x ys (h .0))) (rw e (r .0))) | inr k ↦ k ]
+
+at-most : (P : List ℕ → Type 0) (n k : ℕ) → Number P n → Number P k → n ≤ k
+at-most P n k g h =
+    let l = no-longer (g .listed) (h .listed) (g .ascending) (h .ascending) (all-weaker P (Has (h .listed)) (h .complete) (g .listed) (g .sound)) in
+    omega (arith, g .counted, h .counted)
 
 -- there is one number at most
 pub one-number : (P : List ℕ → Type 0) (n k : ℕ) → Number P n → Number P k → n ≡ k
-one-number P n k g h = omega (arith, g .counted, h .counted, no-longer (g .listed) (h .listed) (g .ascending) (h .ascending) (all-weaker P (Has (h .listed)) (h .complete) (g .listed) (g .sound)), no-longer (h .listed) (g .listed) (h .ascending) (g .ascending) (all-weaker P (Has (g .listed)) (g .complete) (h .listed) (h .sound)))
+one-number P n k g h = omega (arith, at-most P n k g h, at-most P k n h g)

@@ -1,5 +1,5 @@
 -- The first placing of the enumeration is the first in scan order, and there is one exactly where there is a placing. Assumes nothing.
-use mathlib.Core.Path.{_≡_, refl, sym, ap, subst}
+use mathlib.Core.Path.{_≡_, refl, sym, ap, subst, _∙_}
 use mathlib.Core.List.{List, [], _∷_, _++_}
 use mathlib.Core.Bool.{Bool, true, false, cond}
 use mathlib.Core.Logic.{_⊎_, inl, inr}
@@ -89,23 +89,10 @@ module _ {A : Type 0} (eq : A → A → Bool) (role : A → Role) (mode : Mode) 
       }
 
   pub decided : Decided eq role mode s pattern
-  decided =
-      record {
-        none = unplaced;
-        only = λ h. nothing h (verdict eq role mode s pattern) refl;
-        some = λ q h. something q h (verdict eq role mode s pattern) refl;
-        earliest = earliest;
-        reached = λ p h. it p h (verdict eq role mode s pattern) refl;
-      }
+  decided = go (verdict eq role mode s pattern) refl
     where
-      nothing : Unplaced role mode s pattern → (o : Option (List ℕ)) → verdict eq role mode s pattern ≡ o → o ≡ None
-      nothing h None e = refl
-      nothing h (Some p) e = absurd (h p (earliest p e .placed))
-
-      something : (q : List ℕ) → Placing role mode s pattern q → (o : Option (List ℕ)) → verdict eq role mode s pattern ≡ o → (p : List ℕ) × (o ≡ Some p)
-      something q h None e = absurd (unplaced e q h)
-      something q h (Some p) e = (p, refl)
-
-      it : (p : List ℕ) → Earliest role mode s pattern p → (o : Option (List ℕ)) → verdict eq role mode s pattern ≡ o → o ≡ Some p
-      it p h None e = absurd (unplaced e p (h .placed))
-      it p h (Some q) e = ap Some (one-earliest q p (earliest q e) h)
+      go : (o : Option (List ℕ)) → verdict eq role mode s pattern ≡ o → Decided eq role mode s pattern
+      go None e =
+          record { none = unplaced; only = λ _. e; some = λ q h. absurd (unplaced e q h); earliest = earliest; reached = λ p h. absurd (unplaced e p (h .placed)) }
+      go (Some r) e =
+          record { none = unplaced; only = λ h. absurd (h r (earliest r e .placed)); some = λ _ _. (r, e); earliest = earliest; reached = λ p h. e ∙ ap Some (one-earliest r p (earliest r e) h) }

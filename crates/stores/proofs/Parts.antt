@@ -7,7 +7,9 @@ use lib.ListN.{length, getD, set, take, drop, replicate}
 use Rattle.std.specs.shelf.Lists.{sumBy}
 use Rattle.std.proofs.shelf.Lists.{length-take, length-take-le, length-drop, drop-drop}
 use Rattle.std.proofs.shelf.Sums.{sumBy-cons}
-use Rattle.stores.specs.Parts.{lengths, parts}
+use Rattle.stores.specs.declared.part.Part.{Part}
+use Rattle.stores.specs.Names.{Names, under}
+use Rattle.stores.specs.Parts.{lengths, parts, Lies}
 
 pub length-lengths : (n l : ℕ) (table : List ℕ) → length (lengths n l table) ≡ n
 length-lengths zero l table = refl
@@ -60,3 +62,9 @@ module _ {X : Type 0} (width : ℕ → ℕ) where
   pub parts-zeros : (n : ℕ) (area : List X) → parts width (replicate n 0) area ≡ replicate n []
   parts-zeros zero area = refl
   parts-zeros (suc n) area = ap (λ z. [] ∷ z) (parts-zeros n (drop (width 0) area))
+
+-- a part that is a string has its length
+pub lies-length : {X : Type 0} (names : Names X) (area : List X) (k : ℕ) (part : Part) → Lies names area k part → length (under names k) ≡ part .length
+lies-length names area k part lies =
+    let within = lies .within in
+    ap length (lies .string) ∙ length-take-le (part .length) (drop (part .start) area) (simp length-drop (omega arith))

@@ -7,7 +7,7 @@ use native.Mathlib.Omega.{arith}
 use lib.ListN.{length, getD, take, drop}
 use Rattle.std.specs.shelf.Lists.{sumBy}
 use Rattle.std.specs.declared.option.Option.the-variants.{None}
-use Rattle.stores.specs.Names.{Names, nothing, under}
+use Rattle.stores.specs.Names.{Names, nothing, limits, under}
 use Rattle.stores.specs.Calls.{number-refusal}
 use Rattle.stores.specs.Parts.{lengths, parts, laid}
 use Rattle.stores.proofs.Calls.{number-is}
@@ -21,6 +21,11 @@ module _ {X : Type 0} (width : ℕ → ℕ) (area : List X) (table : List ℕ) (
   pub shown-many : (b : Bool) → length (cond b (laid width area table n l t) nothing .strings) ≡ cond b n 0
   shown-many true = laid-many
   shown-many false = refl
+
+  -- the limits that the test shows
+  pub shown-limits : (b : Bool) → limits (cond b (laid width area table n l t) nothing) ≡ cond b (record { names = n; longest = l; most = t }) (limits {X = X} nothing)
+  shown-limits true = (λ j. record { names = laid-many j; longest = l; most = t })
+  shown-limits false = refl
 
   -- where a number is accepted, the test has passed
   pub shown-is : (b : Bool) (k : ℕ) → number-refusal (cond b (laid width area table n l t) nothing) k ≡ None → (b ≡ true) × (1 ≤ k) × (k ≤ n)

@@ -3,11 +3,8 @@ use mathlib.Core.List.{List, [], _∷_}
 use mathlib.Core.Path.{_≡_}
 use Prim.Native.Nat.{ℕ, zero, suc, _+_, _≤_, min}
 use lib.ListN.{length, take, drop}
-use Rattle.std.specs.declared.option.Option.the-variants.{Some, None}
-use Rattle.std.specs.declared.result.Result.{Result}
-use Rattle.std.specs.declared.result.Result.the-variants.{Ok, Err}
+use Rattle.std.specs.declared.option.Option.the-variants.{None}
 use Rattle.stores.specs.declared.part.Part.{Part}
-use Rattle.stores.specs.declared.refusal.StoreRefusal.{StoreRefusal}
 use Rattle.stores.specs.Names.{Names, under}
 use Rattle.stores.specs.Calls.{number-refusal}
 
@@ -31,8 +28,3 @@ pub record Lies {X : Type 0} (names : Names X) (area : List X) (k : ℕ) (part :
   pub accepts : number-refusal names k ≡ None
   pub within : part .start + part .length ≤ length area
   pub string : under names k ≡ take (part .length) (drop (part .start) area)
-
--- where the string of number k lies, or why it has none
-abbrev pub Found : {X : Type 0} → Names X → List X → ℕ → Result Part StoreRefusal → Type 0
-Found names area k (Ok part) = Lies names area k part
-Found names area k (Err e) = number-refusal names k ≡ Some e

@@ -11,13 +11,14 @@ use Rattle.std.specs.declared.option.Option.the-variants.{None}
 use Rattle.stores.specs.Names.{Names, nothing, size, limits, under, with-string}
 use Rattle.stores.specs.Ranges.{in-range, new-names}
 use Rattle.stores.specs.Calls.{number-refusal, put-refusal}
-use Rattle.stores.specs.Parts.{lengths, parts, laid}
+use Rattle.stores.specs.Parts.{lengths, parts, laid, written}
 use Rattle.stores.proofs.Bounds.{InRange, range-parts, size-le}
 use Rattle.stores.proofs.Calls.{put-fits}
 use Rattle.stores.proofs.Parts.{length-lengths, lengths-le, lengths-set, lengths-zeros, parts-short, parts-zeros}
 use Rattle.stores.proofs.Shown.{laid-many, shown-many, shown-limits, shown-is, laid-under}
-use Rattle.slots.specs.Slots.{in-slots, Slot, written}
-use Rattle.slots.proofs.Writes.{slots-wide, slot-fits, parts-written, length-written}
+use Rattle.stores.proofs.Writes.{written-take, written-there, written-drop, length-written, parts-put}
+use Rattle.slots.specs.Slots.{in-slots, Slot}
+use Rattle.slots.proofs.Places.{slots-wide, slot-fits}
 
 -- one string replaced by another that is short enough
 set-short : {X : Type 0} (w : ℕ) (xs : List (List X)) (k : ℕ) (s : List X) → length s ≤ w → ((j : ℕ) → length (getD xs j []) ≤ w) → (j : ℕ) → length (getD (set xs k s) j []) ≤ w
@@ -100,10 +101,11 @@ module _ {X : Type 0} (area : List X) (table : List ℕ) (n l : ℕ) where
       let many = length-lengths n l table in
       let keeps : length area′ ≡ length area = ap length ea ∙ length-written ((k - 1) * l) s area (omega arith) in
       let test : in-range n l (n * l) (length area′) ≡ true = ap (in-range n l (n * l)) keeps ∙ i .test in
-      let strings : parts (λ _. l) (lengths n l table′) area′ ≡ set (parts (λ _. l) (lengths n l table) area) (k - 1) s =
-      (λ j. parts (λ _. l) (lengths n l (et j)) (ea j))
-      ∙ ap (λ z. parts (λ _. l) z (written ((k - 1) * l) s area)) (lengths-set n l table (k - 1) (length s) lt (omega arith) le)
-      ∙ parts-written l (lengths n l table) area (k - 1) s (rw many lt) (lengths-le n l table) le (rw many lies) in
+      let start = (k - 1) * l in
+      let wide = slots-wide l (lengths n l table) (k - 1) (omega arith) in
+      let set-is : lengths n l table′ ≡ set (lengths n l table) (k - 1) (length s) = ap (lengths n l) et ∙ lengths-set n l table (k - 1) (length s) lt (omega arith) le in
+      let put = parts-put (λ _. l) (lengths n l table) (k - 1) start s area (written start s area) (omega arith) (sym wide) (lengths-le n l table) (written-take start s area start (omega arith) (omega arith)) (written-there start s area (omega arith)) (ap (parts (λ _. l) (drop (suc (k - 1)) (lengths n l table))) (written-drop start s area (start + l) (omega arith) (omega arith))) in
+      let strings : parts (λ _. l) (lengths n l table′) area′ ≡ set (parts (λ _. l) (lengths n l table) area) (k - 1) s = (λ j. parts (λ _. l) (set-is j) (ea j)) ∙ put in
       let again : Names X → Names X = λ z. record { strings = set (z .strings) (k - 1) s; longest = z .longest; most = z .most } in
       cond-true _ _ _ test
       ∙ (λ j. record { strings = strings j; longest = l; most = n * l })

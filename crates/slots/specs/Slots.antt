@@ -1,10 +1,10 @@
 -- What a slot store means. Assumes nothing.
 use mathlib.Core.Bool.{cond}
-use mathlib.Core.List.{List, _++_}
+use mathlib.Core.List.{List}
 use mathlib.Core.Path.{_≡_}
 use Prim.Native.Nat.{ℕ, _+_, _-_, _*_, _≤_}
 use denote.Ref.{now}
-use lib.ListN.{length, take, drop}
+use lib.ListN.{length}
 use Rattle.std.specs.declared.option.Option.the-variants.{Some}
 use Rattle.std.specs.declared.result.Result.{Result}
 use Rattle.std.specs.declared.result.Result.the-variants.{Ok, Err}
@@ -37,7 +37,3 @@ pub record Slot {X : Type 0} (names : Names X) (area : List X) (l k : ℕ) (part
 abbrev pub Found : {X : Type 0} → Names X → List X → ℕ → ℕ → Result Part StoreRefusal → Type 0
 Found names area l k (Ok part) = Slot names area l k part
 Found names area l k (Err e) = number-refusal names k ≡ Some e
-
--- the string s written into an area from `start` on: all before and behind it is as it was
-abbrev pub written : {X : Type 0} → ℕ → List X → List X → List X
-written start s area = take start area ++ (s ++ drop (length s) (drop start area))

@@ -3,3 +3,4 @@ pub mod Calls
 pub mod Parts
 pub mod Puts
 pub mod Shown
+pub mod Writes

@@ -1,5 +1,5 @@
 -- Strings that lie in one area, by a table of their lengths. Assumes nothing.
-use mathlib.Core.List.{List, [], _∷_}
+use mathlib.Core.List.{List, [], _∷_, _++_}
 use mathlib.Core.Path.{_≡_}
 use Prim.Native.Nat.{ℕ, zero, suc, _+_, _≤_, min}
 use lib.ListN.{length, take, drop}
@@ -28,3 +28,7 @@ pub record Lies {X : Type 0} (names : Names X) (area : List X) (k : ℕ) (part :
   pub accepts : number-refusal names k ≡ None
   pub within : part .start + part .length ≤ length area
   pub string : under names k ≡ take (part .length) (drop (part .start) area)
+
+-- the string s written into an area from `start` on: all before and behind it is as it was
+abbrev pub written : {X : Type 0} → ℕ → List X → List X → List X
+written start s area = take start area ++ (s ++ drop (length s) (drop start area))

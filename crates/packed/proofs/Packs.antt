@@ -21,7 +21,7 @@ use Rattle.stores.specs.Ranges.{in-range, new-names}
 use Rattle.stores.specs.Calls.{number-refusal, put-refusal}
 use Rattle.stores.specs.Parts.{lengths, parts, laid, written}
 use Rattle.stores.proofs.Bounds.{InRange}
-use Rattle.stores.proofs.Calls.{put-over, put-fits, size-set}
+use Rattle.stores.proofs.Calls.{under-is, put-over, put-fits, size-set}
 use Rattle.stores.proofs.Parts.{length-lengths, lengths-at, lengths-set, lengths-zeros, parts-zeros, lies-length}
 use Rattle.stores.proofs.Shown.{laid-many, shown-many, shown-limits, shown-is, laid-under}
 use Rattle.stores.proofs.Writes.{length-written}
@@ -146,7 +146,6 @@ module _ {X : Type 0} (s : PackedStore X) (k : ℕ) (ok : number-refusal (packed
   module _ (part : Part) (found : Packed s k part) (string : List X) where
     -- all strings together, once this one is replaced
     put-size : size (set (packed-names s .strings) (k - 1) string) + part .length ≡ sum (lengths (s .names) (s .longest) (s .lengths)) + length string
-    unfolding under
     put-size =
         let i = pack-inside in
         let low = i .low in let high = i .high in let full = i .full in let fits = i .ranges .lies in
@@ -154,6 +153,7 @@ module _ {X : Type 0} (s : PackedStore X) (k : ℕ) (ok : number-refusal (packed
         let many : length (packed-names s .strings) ≡ s .names = ap (λ z. length (z .strings)) is ∙ laid-many (λ m. m) (now (s .area)) (s .lengths) (s .names) (s .longest) (s .most) in
         let e = size-set (packed-names s .strings) (k - 1) string (omega arith) in
         let len = lies-length (packed-names s) (now (s .area)) k part (found .lies) in
+        let here = ap length (under-is (packed-names s) k low) in
         let all : size (packed-names s .strings) ≡ sum (lengths (s .names) (s .longest) (s .lengths)) = ap (λ z. size (z .strings)) is ∙ parts-size (lengths (s .names) (s .longest) (s .lengths)) (now (s .area)) (omega arith) in
         omega arith
 

@@ -4,9 +4,9 @@ ghost use Prim.Native.Nat.{ℕ, _+_, _-_, _<_, _≤_};
 ghost use lib.ListN.{length, getD, take, drop};
 ghost use denote.Ref.{now as at, name};
 ghost use Rattle.std.specs.shelf.Lists.{sum};
-ghost use Rattle.symbols.specs.Answers.{answered, over};
+ghost use Rattle.symbols.specs.Answers.{over};
 ghost use Rattle.stores.specs.Ranges.{new-names};
-ghost use Rattle.stores.specs.Calls.{put-refusal, after-put};
+ghost use Rattle.stores.specs.Calls.{put-answer, after-put};
 ghost use Rattle.stores.specs.Parts.{lengths, written};
 ghost use Rattle.packed.specs.Packs.{packs, packed-names, Found};
 ghost use Rattle.packed.specs.Bounds.{packed-bounds};
@@ -127,7 +127,7 @@ pub impl<'a, T: Copy> Store for PackedStore<'a, T> as PackedStoreStore {
     ghost bounds = { packed-bounds };
 
     fn put(&mut self, number: usize, string: &[T]) -> Result<(), StoreRefusal>
-        ensures answer { λ r. ⌜ r ≡ answered (put-refusal (packed-names (now (self .entry))) number (now (string .entry))) tt ⌝ }
+        ensures answer { λ r. ⌜ r ≡ put-answer (packed-names (now (self .entry))) number (now (string .entry)) ⌝ }
         ensures after { λ _. ⌜ packed-names (now (self .exit)) ≡ after-put (packed-names (now (self .entry))) number (now (string .entry)) ⌝ }
         ensures named { λ _. ⌜ name (now (self .exit) .area) ≡ name (now (self .entry) .area) ⌝ }
     {

@@ -5,7 +5,7 @@ ghost use lib.ListN.{length, take, drop};
 ghost use denote.Ref.{now as at, name};
 ghost use Rattle.symbols.specs.Answers.{answered, over};
 ghost use Rattle.stores.specs.Ranges.{in-range, check-refusal, new-names};
-ghost use Rattle.stores.specs.Calls.{put-refusal, after-put};
+ghost use Rattle.stores.specs.Calls.{put-answer, after-put};
 ghost use Rattle.stores.specs.Parts.{written};
 ghost use Rattle.slots.specs.Slots.{slot-names, Found};
 ghost use Rattle.slots.specs.Bounds.{slot-bounds};
@@ -107,7 +107,7 @@ pub impl<'a, T: Copy> Store for SlotStore<'a, T> as SlotStoreStore {
     ghost bounds = { slot-bounds };
 
     fn put(&mut self, number: usize, string: &[T]) -> Result<(), StoreRefusal>
-        ensures answer { λ r. ⌜ r ≡ answered (put-refusal (slot-names (now (self .entry))) number (now (string .entry))) tt ⌝ }
+        ensures answer { λ r. ⌜ r ≡ put-answer (slot-names (now (self .entry))) number (now (string .entry)) ⌝ }
         ensures after { λ _. ⌜ slot-names (now (self .exit)) ≡ after-put (slot-names (now (self .entry))) number (now (string .entry)) ⌝ }
         ensures named { λ _. ⌜ name (now (self .exit) .area) ≡ name (now (self .entry) .area) ⌝ }
     {

@@ -2,13 +2,13 @@
 use mathlib.Core.Bool.{Bool, true, false, cond, _&&_}
 use mathlib.Core.List.{List, [], _∷_}
 use mathlib.Core.Path.{_≡_, refl, _∙_}
-use Prim.Native.Nat.{ℕ, suc, _+_, _*_, _≤_}
+use Prim.Native.Nat.{ℕ, zero, suc, _+_, _*_, _≤_}
 use native.Mathlib.Nat.{suc-mul}
 use native.Mathlib.Omega.{arith}
 use lib.Dec.{leb}
 use lib.ListN.{length, getD}
 use Rattle.std.proofs.shelf.Tests.{and-parts, leb-true}
-use Rattle.stores.specs.Names.{Names, Bounded, nothing, size}
+use Rattle.stores.specs.Names.{Names, Bounded, nothing, size, under}
 use Rattle.stores.specs.Ranges.{in-range}
 use Rattle.stores.specs.Parts.{lengths, parts, laid}
 use Rattle.stores.proofs.Parts.{length-lengths, lengths-le, length-parts, parts-short}
@@ -37,15 +37,20 @@ pub size-le : {X : Type 0} (w : ℕ) (xs : List (List X)) → ((k : ℕ) → len
 size-le w [] h = omega arith
 size-le w (x ∷ xs) h = let a = h 0 in omega (arith, size-le w xs (λ k. h (suc k)), suc-mul (length xs) w)
 
+under-short : {X : Type 0} (names : Names X) (l : ℕ) → ((k : ℕ) → length (getD (names .strings) k []) ≤ l) → (k : ℕ) → length (under names k) ≤ l
+unfolding under
+under-short names l h zero = omega arith
+under-short names l h (suc k) = h k
+
 nothing-bounded : {X : Type 0} → Bounded (nothing {X = X})
-nothing-bounded = record { few = omega arith; short = omega arith; small = omega arith; each = λ k. omega arith; total = omega arith; made = λ h. absurd (omega arith); unmade = λ h. (refl, refl) }
+nothing-bounded = record { few = omega arith; short = omega arith; small = omega arith; each = under-short nothing 0 (λ k. omega arith); total = omega arith; made = λ h. absurd (omega arith); unmade = λ h. (refl, refl) }
 
 -- names that lie in an area are within limits in range where all together are within the most
 pub laid-bounded : {X : Type 0} (width : ℕ → ℕ) (area : List X) (table : List ℕ) (n l t room : ℕ) → InRange n l t room → size (parts width (lengths n l table) area) ≤ t → Bounded (laid width area table n l t)
 laid-bounded width area table n l t room r total =
     let some = r .some in
     let many = length-parts width (lengths n l table) area ∙ length-lengths n l table in
-    record { few = omega (arith, r .few, many); short = r .short; small = r .small; each = parts-short width l (lengths n l table) area (lengths-le n l table); total = total; made = λ h. (r .wide, r .large); unmade = λ h. absurd (omega (arith, many)) }
+    record { few = omega (arith, r .few, many); short = r .short; small = r .small; each = under-short (laid width area table n l t) l (parts-short width l (lengths n l table) area (lengths-le n l table)); total = total; made = λ h. (r .wide, r .large); unmade = λ h. absurd (omega (arith, many)) }
 
 -- names that are shown only under a test
 pub shown-bounded : {X : Type 0} (b : Bool) (names : Names X) → (b ≡ true → Bounded names) → Bounded (cond b names nothing)

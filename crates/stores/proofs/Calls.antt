@@ -86,6 +86,12 @@ module _ {X : Type 0} (names : Names X) (k : ℕ) (ok : number-refusal names k �
   unfolding put-refusal too-long
   put-fits s le h = cond-false _ _ _ not-outside ∙ cond-false _ _ _ (or-from _ _ (le-ltb (names .longest) (length s) le) (le-ltb (names .most) _ h))
 
+-- the string of a number, in the list
+pub under-is : {X : Type 0} (names : Names X) (k : ℕ) → 1 ≤ k → under names k ≡ getD (names .strings) (k - 1) []
+unfolding under
+under-is names zero h = absurd (omega arith)
+under-is names (suc k) h = ap (λ j. getD (names .strings) j []) (let e : k ≡ suc k - 1 = omega arith in e)
+
 -- all strings together, once one is replaced
 pub size-set : {X : Type 0} (xs : List (List X)) (k : ℕ) (s : List X) → k < length xs → size (set xs k s) + length (getD xs k []) ≡ size xs + length s
 size-set [] k s h = absurd (omega arith)

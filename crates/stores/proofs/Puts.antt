@@ -19,24 +19,25 @@ use Rattle.stores.specs.declared.put.Put.{Put}
 use Rattle.stores.specs.declared.refusal.StoreRefusal.{StoreRefusal}
 use Rattle.stores.specs.Names.{Names, limits, under, with-string}
 use Rattle.stores.specs.Calls.{put-refusal, after-put}
-use Rattle.stores.specs.Puts.{after-puts, accepted, last-put, or-else, put-or}
+use Rattle.stores.specs.Puts.{after-puts, accepted, last-put, or-else, put-or, LastStands}
 use Rattle.stores.proofs.Calls.{put-inside}
 
 -- the string of number k once number j has the string s
-under-with : {X : Type 0} (names : Names X) (j k : ℕ) (s : List X) → 1 ≤ j → j ≤ length (names .strings) → 1 ≤ k → under (with-string names j s) k ≡ put-or (cond (eqb j k) (Some s) None) (under names k)
+under-with : {X : Type 0} (names : Names X) (j k : ℕ) (s : List X) → 1 ≤ j → j ≤ length (names .strings) → under (with-string names j s) k ≡ put-or (cond (eqb j k) (Some s) None) (under names k)
 unfolding under with-string
-under-with {X} names j k s low high some = ⊎-elim same other (cases-eq j k)
+under-with {X} names j zero s low high = let no′ : j ≡ 0 → ⊥ = omega arith in rw (ne-eqb j 0 no′)
+under-with {X} names j (suc k) s low high = ⊎-elim same other (cases-eq j (suc k))
   where
-    same : j ≡ k → getD (set (names .strings) (j - 1) s) (k - 1) [] ≡ put-or (cond (eqb j k) (Some s) None) (getD (names .strings) (k - 1) [])
+    same : j ≡ suc k → getD (set (names .strings) (j - 1) s) k [] ≡ put-or (cond (eqb j (suc k)) (Some s) None) (getD (names .strings) k [])
     same e =
-        let at : k - 1 ≡ j - 1 = omega arith in
+        let at : k ≡ j - 1 = omega arith in
         let lt : j - 1 < length (names .strings) = omega arith in
-        rw (eq-eqb j k e, at) (getD-set-same (names .strings) (j - 1) s [] lt)
+        rw (eq-eqb j (suc k) e, at) (getD-set-same (names .strings) (j - 1) s [] lt)
 
-    other : (j ≡ k → ⊥) → getD (set (names .strings) (j - 1) s) (k - 1) [] ≡ put-or (cond (eqb j k) (Some s) None) (getD (names .strings) (k - 1) [])
+    other : (j ≡ suc k → ⊥) → getD (set (names .strings) (j - 1) s) k [] ≡ put-or (cond (eqb j (suc k)) (Some s) None) (getD (names .strings) k [])
     other no′ =
-        let ne : k - 1 ≢ j - 1 = omega arith in
-        rw (ne-eqb j k no′) (getD-set-other (names .strings) (j - 1) (k - 1) s [] ne)
+        let ne : k ≢ j - 1 = omega arith in
+        rw (ne-eqb j (suc k) no′) (getD-set-other (names .strings) (j - 1) k s [] ne)
 
 -- the string of the last put, once one more stands before the others
 last-more : {X : Type 0} (o q : Option (List X)) (now′ old : List X) → now′ ≡ put-or q old → put-or o now′ ≡ put-or (or-else o q) old
@@ -44,22 +45,22 @@ last-more (Some s) q now′ old e = refl
 last-more None q now′ old e = e
 
 -- one put before the others, whatever refuses it
-put-first : {X : Type 0} (names : Names X) (p : Put X) (ps : List (Put X)) (k : ℕ) (o : Option StoreRefusal) → 1 ≤ k
+put-first : {X : Type 0} (names : Names X) (p : Put X) (ps : List (Put X)) (k : ℕ) (o : Option StoreRefusal)
     → (o ≡ None → (1 ≤ p .number) × (p .number ≤ length (names .strings)))
     → ((ns : Names X) → under (after-puts ns ps) k ≡ put-or (last-put (accepted ns ps) k) (under ns k))
     → under (after-puts (unless o names (with-string names (p .number) (now (p .string)))) ps) k ≡ put-or (last-put (unless o [] (p ∷ []) ++ accepted (unless o names (with-string names (p .number) (now (p .string)))) ps) k) (under names k)
 unfolding last-put
-put-first names p ps k (Some e) some h rest = rest names
-put-first names p ps k None some h rest =
+put-first names p ps k (Some e) h rest = rest names
+put-first names p ps k None h rest =
     let at = h refl in
-    let first = under-with names (p .number) k (now (p .string)) (at .0) (at .1) some in
+    let first = under-with names (p .number) k (now (p .string)) (at .0) (at .1) in
     rest _ ∙ last-more (last-put (accepted (with-string names (p .number) (now (p .string))) ps) k) _ _ _ first
 
 -- after any puts a number has the string of the last accepted put to it, or what it had before
-pub last-stands : {X : Type 0} (names : Names X) (ps : List (Put X)) (k : ℕ) → 1 ≤ k → under (after-puts names ps) k ≡ put-or (last-put (accepted names ps) k) (under names k)
+pub last-stands : {X : Type 0} (names : Names X) (ps : List (Put X)) → LastStands names ps (after-puts names ps)
 unfolding after-puts accepted last-put
-last-stands names [] k some = refl
-last-stands names (p ∷ ps) k some = put-first names p ps k (put-refusal names (p .number) (now (p .string))) some (put-inside names (p .number) (now (p .string))) (λ ns. last-stands ns ps k some)
+last-stands names [] k = refl
+last-stands names (p ∷ ps) k = put-first names p ps k (put-refusal names (p .number) (now (p .string))) (put-inside names (p .number) (now (p .string))) (λ ns. last-stands ns ps k)
 
 -- no put changes the limits
 put-limits : {X : Type 0} (names : Names X) (k : ℕ) (s : List X) (o : Option StoreRefusal) → limits (unless o names (with-string names k s)) ≡ limits names

@@ -10,7 +10,7 @@ use Rattle.std.specs.declared.option.Option.the-variants.{None}
 use Rattle.stores.specs.Names.{Names, nothing, limits, under}
 use Rattle.stores.specs.Calls.{number-refusal}
 use Rattle.stores.specs.Parts.{lengths, parts, laid}
-use Rattle.stores.proofs.Calls.{number-is}
+use Rattle.stores.proofs.Calls.{under-is, number-is}
 use Rattle.stores.proofs.Parts.{length-lengths, lengths-at, length-parts, parts-at}
 
 module _ {X : Type 0} (width : ℕ → ℕ) (area : List X) (table : List ℕ) (n l t : ℕ) where
@@ -34,9 +34,8 @@ module _ {X : Type 0} (width : ℕ → ℕ) (area : List X) (table : List ℕ) (
 
   -- the string of a number, where the test has passed
   pub laid-under : (k : ℕ) → 1 ≤ k → k ≤ n → under (laid width area table n l t) k ≡ take (min (getD table (k - 1) 0) l) (drop (sumBy width (take (k - 1) (lengths n l table))) area)
-  unfolding under
   laid-under k low high =
       let lt : k - 1 < n = omega arith in
       let lt′ : k - 1 < length (lengths n l table) = omega (arith, length-lengths n l table) in
-      parts-at width (lengths n l table) area (k - 1) lt′
+      under-is (laid width area table n l t) k low ∙ parts-at width (lengths n l table) area (k - 1) lt′
       ∙ ap (λ z. take z (drop (sumBy width (take (k - 1) (lengths n l table))) area)) (lengths-at n l table (k - 1) lt)

@@ -1,7 +1,7 @@
 -- What a store means: numbered strings under two limits. Assumes nothing.
 use mathlib.Core.List.{List, [], _∷_}
 use mathlib.Core.Path.{_≡_}
-use Prim.Native.Nat.{ℕ, _+_, _-_, _≤_}
+use Prim.Native.Nat.{ℕ, zero, suc, _+_, _-_, _≤_}
 use lib.ListN.{length, getD, set}
 use Rattle.stores.specs.declared.limits.Limits.{Limits}
 
@@ -24,9 +24,10 @@ nothing = record { strings = []; longest = 0; most = 0 }
 abbrev pub limits : {X : Type 0} → Names X → Limits
 limits names = record { names = length (names .strings); longest = names .longest; most = names .most }
 
--- the string of number k
+-- the string of number k, null where no string has the number
 unfoldable pub under : {X : Type 0} → Names X → ℕ → List X
-under names k = getD (names .strings) (k - 1) []
+under names zero = []
+under names (suc k) = getD (names .strings) k []
 
 -- the names once number k has the string s
 unfoldable pub with-string : {X : Type 0} → Names X → ℕ → List X → Names X
@@ -38,7 +39,7 @@ pub record Bounded {X : Type 0} (names : Names X) : Type 0 where
   pub few : length (names .strings) ≤ 64
   pub short : names .longest ≤ 4096
   pub small : names .most ≤ 65536
-  pub each : (k : ℕ) → length (getD (names .strings) k []) ≤ names .longest
+  pub each : (k : ℕ) → length (under names k) ≤ names .longest
   pub total : size (names .strings) ≤ names .most
   pub made : 1 ≤ length (names .strings) → (1 ≤ names .longest) × (1 ≤ names .most)
   pub unmade : length (names .strings) ≡ 0 → (names .longest ≡ 0) × (names .most ≡ 0)

@@ -1,6 +1,7 @@
 -- What a list of puts leaves, each accepted or refused. Assumes nothing.
 use mathlib.Core.Bool.{cond}
 use mathlib.Core.List.{List, [], _∷_, _++_}
+use mathlib.Core.Path.{_≡_}
 use Prim.Native.Nat.{ℕ}
 use lib.Dec.{eqb}
 use denote.Ref.{now}
@@ -8,7 +9,7 @@ use Rattle.std.specs.declared.option.Option.{Option}
 use Rattle.std.specs.declared.option.Option.the-variants.{Some, None}
 use Rattle.symbols.specs.Answers.{unless}
 use Rattle.stores.specs.declared.put.Put.{Put}
-use Rattle.stores.specs.Names.{Names}
+use Rattle.stores.specs.Names.{Names, under}
 use Rattle.stores.specs.Calls.{put-refusal, after-put}
 
 -- the names after the puts, in their order
@@ -35,3 +36,7 @@ last-put (p ∷ ps) k = or-else (last-put ps k) (cond (eqb (p .number) k) (Some 
 abbrev pub put-or : {X : Type 0} → Option (List X) → List X → List X
 put-or (Some s) old = s
 put-or None old = old
+
+-- after the puts each number has the string of the last accepted put to it, or what it had before
+abbrev pub LastStands : {X : Type 0} → Names X → List (Put X) → Names X → Type 0
+LastStands before puts after = (k : ℕ) → under after k ≡ put-or (last-put (accepted before puts) k) (under before k)

@@ -1,9 +1,8 @@
 // A list of puts, carried out in its order.
 ghost use mathlib.Core.Path.{_≡_};
-ghost use Prim.Native.Nat.{ℕ, _≤_};
 ghost use lib.ListN.{length};
-ghost use Rattle.stores.specs.Names.{limits, under};
-ghost use Rattle.stores.specs.Puts.{after-puts, accepted, last-put, put-or};
+ghost use Rattle.stores.specs.Names.{limits};
+ghost use Rattle.stores.specs.Puts.{after-puts, accepted, LastStands};
 use crate::store::Store;
 
 // A string for a number.
@@ -17,7 +16,7 @@ pub struct Put<'a, T> {
 pub fn put_all<S: Store>(store: &mut S, puts: &[Put<S::Symbol>]) -> usize
     ensures answer { λ r. ⌜ r ≡ length (accepted (S·Store .held (now (store .entry))) (now (puts .entry))) ⌝ }
     ensures after { λ _. ⌜ S·Store .held (now (store .exit)) ≡ after-puts (S·Store .held (now (store .entry))) (now (puts .entry)) ⌝ }
-    ensures last { λ _. ⌜ ((k : ℕ) → 1 ≤ k → under (S·Store .held (now (store .exit))) k ≡ put-or (last-put (accepted (S·Store .held (now (store .entry))) (now (puts .entry))) k) (under (S·Store .held (now (store .entry))) k)) ⌝ }
+    ensures last { λ _. ⌜ LastStands (S·Store .held (now (store .entry))) (now (puts .entry)) (S·Store .held (now (store .exit))) ⌝ }
     ensures same { λ _. ⌜ limits (S·Store .held (now (store .exit))) ≡ limits (S·Store .held (now (store .entry))) ⌝ }
 {
     let mut count = 0;

@@ -3,10 +3,8 @@ ghost use mathlib.Core.Path.{_≡_};
 ghost use mathlib.Core.Bool.{_||_};
 ghost use Prim.Native.Nat.{ℕ};
 ghost use lib.Dec.{eqb, ltb};
-ghost use lib.ListN.{length};
-ghost use Rattle.symbols.specs.Answers.{answered, unless, over};
-ghost use Rattle.stores.specs.Names.{Names, Bounded, limits, under};
-ghost use Rattle.stores.specs.Calls.{number-refusal, put-refusal, fetch-refusal, after-put};
+ghost use Rattle.stores.specs.Names.{Names, Bounded, limits};
+ghost use Rattle.stores.specs.Calls.{put-answer, after-put, fetch-answer, after-fetch, length-answer};
 use crate::limits::Limits;
 use crate::refusal::StoreRefusal;
 
@@ -22,18 +20,19 @@ pub trait Store {
 
     // Replaces the string of a number.
     fn put(&mut self, number: usize, string: &[Self::Symbol]) -> Result<(), StoreRefusal>
-        ensures answer { λ r. ⌜ r ≡ answered (put-refusal (held (now (self .entry))) number (now (string .entry))) tt ⌝ }
+        ensures answer { λ r. ⌜ r ≡ put-answer (held (now (self .entry))) number (now (string .entry)) ⌝ }
         ensures after { λ _. ⌜ held (now (self .exit)) ≡ after-put (held (now (self .entry))) number (now (string .entry)) ⌝ };
 
     // Copies the string of a number to the front of an area, and tells its length.
     fn fetch(&self, number: usize, area: &mut [Self::Symbol]) -> Result<usize, StoreRefusal>
-        ensures answer { λ r. ⌜ r ≡ answered (fetch-refusal (held (now (self .entry))) number (length (now (area .entry)))) (length (under (held (now (self .entry))) number)) ⌝ }
-        ensures area { λ _. ⌜ now (area .exit) ≡ unless (fetch-refusal (held (now (self .entry))) number (length (now (area .entry)))) (now (area .entry)) (over (under (held (now (self .entry))) number) (now (area .entry))) ⌝ };
+        ensures answer { λ r. ⌜ r ≡ fetch-answer (held (now (self .entry))) number (now (area .entry)) ⌝ }
+        ensures area { λ _. ⌜ now (area .exit) ≡ after-fetch (held (now (self .entry))) number (now (area .entry)) ⌝ };
 
     // The length of the string of a number.
     fn length(&self, number: usize) -> Result<usize, StoreRefusal>
-        ensures { λ r. ⌜ r ≡ answered (number-refusal (held (now (self .entry))) number) (length (under (held (now (self .entry))) number)) ⌝ };
+        ensures { λ r. ⌜ r ≡ length-answer (held (now (self .entry))) number ⌝ };
 
+    // How many strings there are, and the limits.
     fn tell(&self) -> Limits
         ensures { λ r. ⌜ r ≡ limits (held (now (self .entry))) ⌝ };
 }

@@ -33,6 +33,6 @@ returns g c =
     record {
       answer = omega arith;
       after = after;
-      last = λ k some. ap (λ n. under n k) after ∙ last-stands names puts k some;
+      last = λ k. ap (λ n. under n k) after ∙ last-stands names puts k;
       same = ap limits after ∙ puts-limits names puts;
     }

@@ -1,6 +1,5 @@
 -- Every slot store is within its limits. Assumes nothing.
 use mathlib.Core.List.{List}
-use mathlib.Core.Path.{_≡_, _∙_}
 use Prim.Native.Nat.{ℕ, _*_, _≤_}
 use denote.Ref.{now}
 use lib.ListN.{length}

@@ -1,6 +1,6 @@
 // The slot store: strings in slots of one width, in one lent area.
 ghost use mathlib.Core.Path.{_≡_};
-ghost use Prim.Native.Nat.{ℕ, _+_, _-_, _*_, _≤_};
+ghost use Prim.Native.Nat.{_+_, _-_, _*_, _≤_};
 ghost use lib.ListN.{length, take, drop};
 ghost use denote.Ref.{now as at, name};
 ghost use Rattle.symbols.specs.Answers.{answered, over};
@@ -167,7 +167,7 @@ mod tests {
     use stores::refusal::StoreRefusalPartialEq;
     use stores::store::Store;
 
-    // Puts, refusals and fetches on three slots of four symbols.
+    // Puts, refusals and fetches on three slots of four symbols, and a store made against the check.
     #[test]
     fn three_slots() -> Result<(), Fail> {
         let mut area = [0u8; 12];
@@ -200,20 +200,15 @@ mod tests {
         check_eq(store.fetch(2, &mut out), Ok(3))?;
         check(out[0] == 97 && out[2] == 99 && out[3] == 9)?;
         check_eq(store.fetch(3, &mut out), Ok(2))?;
-        check(out[0] == 114 && out[1] == 115 && out[2] == 99)
-    }
-
-    // Limits that the check refuses leave a store without strings.
-    #[test]
-    fn no_slots() -> Result<(), Fail> {
-        let mut area = [0u8; 12];
-        let mut store = SlotStore::new(&mut area, 3, 5);
-        check_eq(store.put(1, b""), Err(StoreRefusal::OutOfRange))?;
+        check(out[0] == 114 && out[1] == 115 && out[2] == 99)?;
+        let mut small = [0u8; 12];
+        let unmade = SlotStore::new(&mut small, 3, 5);
         let none = Limits {
             names: 0,
             longest: 0,
             most: 0,
         };
-        check_eq(store.tell(), none)
+        check_eq(unmade.tell(), none)?;
+        check_eq(unmade.length(1), Err(StoreRefusal::OutOfRange))
     }
 }

@@ -1,15 +1,15 @@
 -- Names that a store shows only where its fields pass a test. Assumes nothing.
 use mathlib.Core.Bool.{Bool, true, false, cond}
-use mathlib.Core.List.{List, []}
-use mathlib.Core.Path.{_≡_, refl, sym, ap, _∙_}
-use Prim.Native.Nat.{ℕ, _+_, _-_, _<_, _≤_, min}
+use mathlib.Core.List.{List}
+use mathlib.Core.Path.{_≡_, refl, ap, _∙_}
+use Prim.Native.Nat.{ℕ, _-_, _<_, _≤_, min}
 use native.Mathlib.Omega.{arith}
 use lib.ListN.{length, getD, take, drop}
 use Rattle.std.specs.shelf.Lists.{sumBy}
 use Rattle.std.specs.declared.option.Option.the-variants.{None}
-use Rattle.stores.specs.Names.{Names, nothing, limits, under}
+use Rattle.stores.specs.Names.{nothing, limits, under}
 use Rattle.stores.specs.Calls.{number-refusal}
-use Rattle.stores.specs.Parts.{lengths, parts, laid}
+use Rattle.stores.specs.Parts.{lengths, laid}
 use Rattle.stores.proofs.Calls.{under-is, number-is}
 use Rattle.stores.proofs.Parts.{length-lengths, lengths-at, length-parts, parts-at}
 

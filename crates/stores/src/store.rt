@@ -1,7 +1,6 @@
 // The interface of a store of numbered strings.
 ghost use mathlib.Core.Path.{_≡_};
 ghost use mathlib.Core.Bool.{_||_};
-ghost use Prim.Native.Nat.{ℕ};
 ghost use lib.Dec.{eqb, ltb};
 ghost use Rattle.stores.specs.Names.{Names, Bounded, limits};
 ghost use Rattle.stores.specs.Calls.{put-answer, after-put, fetch-answer, after-fetch, length-answer};

@@ -1,5 +1,3 @@
-use mathlib.Core.Path.{_≡_}
-use Prim.Native.Nat.{_*_}
 use native.Mathlib.Omega.{arith}
 use Rattle.stores.proofs.Calls.{number-outside, number-inside}
 use Rattle.slots.proofs.Slots.{Inside, slot-inside, slot-found}

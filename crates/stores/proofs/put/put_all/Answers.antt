@@ -1,9 +1,6 @@
-use mathlib.Core.Bool.{cond}
 use mathlib.Core.Path.{_≡_, refl, sym, ap, _∙_}
-use Prim.Native.Nat.{_+_, _≤_}
 use native.Mathlib.Omega.{arith}
-use lib.ListN.{length, drop}
-use Rattle.stores.specs.Puts.{accepted, after-puts}
+use Rattle.stores.specs.Puts.{after-puts}
 use Rattle.stores.specs.Names.{limits, under}
 use Rattle.stores.proofs.Puts.{puts-more, puts-none, last-stands, puts-limits}
 use Rattle.stores.proofs.put.put_all.Needs as need

@@ -1,0 +1,5 @@
+pub mod Ends
+pub mod Rows
+pub mod Steps
+pub mod Elements
+pub mod Left

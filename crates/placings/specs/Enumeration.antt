@@ -40,7 +40,7 @@ closes-from role (x ∷ xs) d = after (role x) d (closes-from role xs)
 abbrev pub balanced-test : {A : Type 0} → (A → Role) → List A → Bool
 balanced-test role xs = ltb 0 (length xs) && closes-from role xs 0
 
--- whether the part of element i of m that ends at e suits the element
+-- whether the part of element i, of m, that ends at e suits the element
 abbrev pub suits-test : {A : Type 0} → (A → A → Bool) → (A → Role) → List A → ℕ → List ℕ → ℕ → ℕ → Element A → Bool
 suits-test eq role s m places i e (constant w) = same-parts eq (part s (getD places i 0) e) w
 suits-test eq role s m places i e arbitrary = not (eqb (suc i) m) || eqb e (length s)
@@ -53,7 +53,7 @@ abbrev pub starts-test : Mode → ℕ → Bool
 starts-test Unanchored e = true
 starts-test Anchored e = eqb e 0
 
--- whether the places so far, j of them, may go on with e
+-- whether the places so far may go on with e, where they are so many: the first is a start, each other the end of the next element
 unfoldable pub may-at : {A : Type 0} → (A → A → Bool) → (A → Role) → Mode → List A → List (Element A) → List ℕ → ℕ → ℕ → Bool
 may-at eq role mode s pattern places zero e = starts-test mode e
 may-at eq role mode s pattern places (suc i) e = leb (getD places i 0) e && suits-test eq role s (length pattern) places i e (getD pattern i arbitrary)
@@ -90,3 +90,15 @@ tells (Some p) t = success p t
 -- what a scan over the partial placings xs of m elements answers at an allowance of trials
 abbrev pub answer : ℕ → ℕ → List (List ℕ) → Told
 answer m allowance xs = cond (leb (count m xs) allowance) (tells (first m xs) (count m xs)) spent
+
+-- the scan's verdict: the first placing, if there is one
+abbrev pub verdict : {A : Type 0} → (A → A → Bool) → (A → Role) → Mode → List A → List (Element A) → Option (List ℕ)
+verdict eq role mode s pattern = first (length pattern) (partials eq role mode s pattern)
+
+-- how many partial placings the scan tries
+abbrev pub tried : {A : Type 0} → (A → A → Bool) → (A → Role) → Mode → List A → List (Element A) → ℕ
+tried eq role mode s pattern = count (length pattern) (partials eq role mode s pattern)
+
+-- the scan's answer at an allowance of trials
+abbrev pub scanned : {A : Type 0} → (A → A → Bool) → (A → Role) → Mode → List A → List (Element A) → ℕ → Told
+scanned eq role mode s pattern allowance = answer (length pattern) allowance (partials eq role mode s pattern)

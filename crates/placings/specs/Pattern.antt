@@ -6,7 +6,7 @@ use lib.ListN.{length, take, drop, getD}
 use Rattle.symbols.specs.declared.role.Role.{Role}
 use Rattle.symbols.specs.declared.role.Role.the-variants.{Opening, Closing, Plain}
 
--- an element: a constant, one of the three variables, or a back reference to the element of a number, counted from 0
+-- an element: a constant, an arbitrary, balanced or fixed-length variable, or a back reference to element i, counted from 0
 pub data Element (A : Type 0) : Type 0 where
   constant : List A → Element A
   arbitrary : Element A
@@ -18,12 +18,13 @@ pub data Element (A : Type 0) : Type 0 where
 abbrev pub part : {A : Type 0} → List A → ℕ → ℕ → List A
 part s a b = take (b - a) (drop a s)
 
--- how many a symbol of a role opens, and how many it closes: one or none
+-- how many a symbol of a role opens: one or none
 abbrev pub opens : Role → ℕ
 opens Opening = 1
 opens Closing = 0
 opens Plain = 0
 
+-- how many it closes: one or none
 abbrev pub closes : Role → ℕ
 closes Opening = 0
 closes Closing = 1
@@ -43,13 +44,15 @@ closings role (x ∷ xs) = closes (role x) + closings role xs
 abbrev pub Balanced : {A : Type 0} → (A → Role) → List A → Type 0
 Balanced role xs = (0 < length xs) × (openings role xs ≡ closings role xs) × ((k : ℕ) → closings role (take k xs) ≤ openings role (take k xs))
 
--- Places are a start and then ends, so the part of element i begins at place i of them.
--- That part, where it ends at e, suits the element, the i-th of m counted from 0:
--- a constant is equal to it; an arbitrary variable takes any part, but as the last element it ends where the subject does;
--- a balanced part is balanced; a part of fixed length has that length; a back reference is to an element further left, and equals that element's part
+-- the part of element i, of m, that ends at e suits the element; the places so far are a start and then ends, so it begins at place i of them
 abbrev pub Suits : {A : Type 0} → (A → Role) → List A → ℕ → List ℕ → ℕ → ℕ → Element A → Type 0
+-- a constant suits a part equal to it
 Suits role s m places i e (constant w) = part s (getD places i 0) e ≡ w
+-- an arbitrary variable suits every part, but as the last element it ends where the subject does
 Suits role s m places i e arbitrary = suc i ≡ m → e ≡ length s
+-- a balanced variable suits a balanced part
 Suits role s m places i e balanced = Balanced role (part s (getD places i 0) e)
+-- a fixed-length variable suits a part of its length
 Suits role s m places i e (fixed k) = length (part s (getD places i 0) e) ≡ k
+-- a back reference to an element further left suits a part equal to that element's part
 Suits role s m places i e (again j) = (j < i) × (part s (getD places i 0) e ≡ part s (getD places j 0) (getD places (suc j) 0))

@@ -33,7 +33,7 @@ pub record Earliest {A : Type 0} (role : A → Role) (mode : Mode) (s : List A) 
   pub placed : Placing role mode s pattern places
   pub others : (q : List ℕ) → Placing role mode s pattern q → (q ≡ places) ⊎ Before places q
 
--- a partial placing up to p, or p itself
+-- a partial placing up to and with p
 pub record UpTo {A : Type 0} (role : A → Role) (mode : Mode) (s : List A) (pattern : List (Element A)) (p places : List ℕ) : Type 0 where
   pub partially : Partial role mode s pattern places
   pub reached : (places ≡ p) ⊎ Before places p

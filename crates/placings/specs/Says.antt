@@ -26,6 +26,7 @@ pub record Exceeds {A : Type 0} (role : A → Role) (mode : Mode) (s : List A) (
   pub trials : Number (Trial role mode s pattern) wanted
   pub over : allowance < wanted
 
+-- what an answer at an allowance of trials says
 abbrev pub Says : {A : Type 0} → (A → Role) → Mode → List A → List (Element A) → ℕ → Told → Type 0
 Says role mode s pattern allowance (success p t) = Succeeds role mode s pattern allowance p t
 Says role mode s pattern allowance (failure t) = Fails role mode s pattern allowance t

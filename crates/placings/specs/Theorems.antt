@@ -3,17 +3,15 @@ use mathlib.Core.Path.{_≡_}
 use mathlib.Core.List.{List}
 use mathlib.Core.Bool.{Bool}
 use Prim.Native.Nat.{ℕ}
-use lib.ListN.{length}
 use Rattle.std.specs.Orderings.{Decides}
 use Rattle.std.specs.shelf.Lists.{All, Has}
-use Rattle.std.specs.declared.option.Option.{Option}
 use Rattle.std.specs.declared.option.Option.the-variants.{Some, None}
 use Rattle.symbols.specs.declared.role.Role.{Role}
 use Rattle.placings.specs.declared.mode.Mode.{Mode}
 use Rattle.placings.specs.Pattern.{Element}
 use Rattle.placings.specs.Order.{Ascending, Number}
 use Rattle.placings.specs.Placing.{Partial, Placing, Unplaced, Earliest, UpTo, Trial}
-use Rattle.placings.specs.Enumeration.{partials, first, count, answer}
+use Rattle.placings.specs.Enumeration.{Told, partials, verdict, tried, scanned}
 use Rattle.placings.specs.Says.{Says}
 
 -- a test of symbols that answers whether they are equal
@@ -32,17 +30,22 @@ pub record Enumerates {A : Type 0} (eq : A → A → Bool) (role : A → Role) (
 
 -- the verdict: there is one exactly where there is a placing, and it is the first placing
 pub record Decided {A : Type 0} (eq : A → A → Bool) (role : A → Role) (mode : Mode) (s : List A) (pattern : List (Element A)) : Type 0 where
-  pub none : first (length pattern) (partials eq role mode s pattern) ≡ None → Unplaced role mode s pattern
-  pub only : Unplaced role mode s pattern → first (length pattern) (partials eq role mode s pattern) ≡ None
-  pub earliest : (p : List ℕ) → first (length pattern) (partials eq role mode s pattern) ≡ Some p → Earliest role mode s pattern p
-  pub reached : (p : List ℕ) → Earliest role mode s pattern p → first (length pattern) (partials eq role mode s pattern) ≡ Some p
+  pub none : verdict eq role mode s pattern ≡ None → Unplaced role mode s pattern
+  pub only : Unplaced role mode s pattern → verdict eq role mode s pattern ≡ None
+  pub some : (q : List ℕ) → Placing role mode s pattern q → (p : List ℕ) × (verdict eq role mode s pattern ≡ Some p)
+  pub earliest : (p : List ℕ) → verdict eq role mode s pattern ≡ Some p → Earliest role mode s pattern p
+  pub reached : (p : List ℕ) → Earliest role mode s pattern p → verdict eq role mode s pattern ≡ Some p
 
 -- the trials: the number of partial placings up to and with the first placing, or of all if there is none; either way of those that come after no placing
 pub record Counted {A : Type 0} (eq : A → A → Bool) (role : A → Role) (mode : Mode) (s : List A) (pattern : List (Element A)) : Type 0 where
-  pub up-to : (p : List ℕ) → Earliest role mode s pattern p → Number (UpTo role mode s pattern p) (count (length pattern) (partials eq role mode s pattern))
-  pub all : Unplaced role mode s pattern → Number (Partial role mode s pattern) (count (length pattern) (partials eq role mode s pattern))
-  pub trials : Number (Trial role mode s pattern) (count (length pattern) (partials eq role mode s pattern))
+  pub up-to : (p : List ℕ) → Earliest role mode s pattern p → Number (UpTo role mode s pattern p) (tried eq role mode s pattern)
+  pub all : Unplaced role mode s pattern → Number (Partial role mode s pattern) (tried eq role mode s pattern)
+  pub trials : Number (Trial role mode s pattern) (tried eq role mode s pattern)
 
--- the answer: at every allowance it says what holds of the placings
+-- the answer: at every allowance what it says holds of the placings
 abbrev pub Answered : {A : Type 0} → (A → A → Bool) → (A → Role) → Mode → List A → List (Element A) → Type 0
-Answered eq role mode s pattern = (allowance : ℕ) → Says role mode s pattern allowance (answer (length pattern) allowance (partials eq role mode s pattern))
+Answered eq role mode s pattern = (allowance : ℕ) → Says role mode s pattern allowance (scanned eq role mode s pattern allowance)
+
+-- the only answer: what any other says does not hold
+abbrev pub Determined : {A : Type 0} → (A → A → Bool) → (A → Role) → Mode → List A → List (Element A) → Type 0
+Determined eq role mode s pattern = (allowance : ℕ) (told : Told) → Says role mode s pattern allowance told → told ≡ scanned eq role mode s pattern allowance

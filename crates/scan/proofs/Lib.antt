@@ -6,3 +6,9 @@ pub mod Suiting
 pub mod Courses
 pub mod Resuming
 pub mod Onward
+pub mod Starting
+pub mod Trying
+pub mod Eights
+pub mod Searching
+pub mod Fitting
+pub mod Saying

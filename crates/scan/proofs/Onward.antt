@@ -64,7 +64,7 @@ module _ (ok : List ℕ → ℕ → Bool) (n m start trials : ℕ) where
   unfolding behind
   onward-none rows l some w =
       let z : m ≡ suc (m - 1) = omega arith in
-      let e : below ok n m (start ∷ []) ≡ left ok n m start rows 0 0 = ap (λ d. below ok n d (start ∷ [])) z ∙ below-across ok n m start (m - 1) (start ∷ []) ∙ sym (append-nil _) in
+      let e : below ok n m (start ∷ []) ≡ left ok n m start rows 0 0 = ap (λ d. below ok n d (start ∷ [])) z ∙ below-across ok n (m - 1) (start ∷ []) ∙ sym (append-nil _) in
       record { short = some; begins = refl; within = w; stands = standing-none ok n m start rows l; firsts = ap (first m) e; counts = omega (arith, ap (count m) e) }
 
   -- one more partial placing, which is no placing

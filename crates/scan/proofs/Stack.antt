@@ -19,7 +19,7 @@ use Rattle.scan.specs.Rows.{unused}
 use Rattle.scan.specs.Left.{ends, beginning, places, across, here, behind, left, Standing}
 use Rattle.scan.proofs.Suiting.{end-at}
 
-module _ (ok : List ℕ → ℕ → Bool) (n m start : ℕ) where
+module _ (ok : List ℕ → ℕ → Bool) (n : ℕ) where
   abbrev kids : ℕ → List ℕ → ℕ → List (List ℕ)
   kids d p c = cond (ok p c) (push p c ∷ below ok n d (push p c)) []
 
@@ -33,13 +33,13 @@ module _ (ok : List ℕ → ℕ → Bool) (n m start : ℕ) where
       rw (a, b, cond-false (ok p c) (push p c ∷ below ok n d (push p c)) [] (h c (omega arith) (omega arith)))
       (skips d p k j (suc c) (λ i x y. h i (omega arith) (omega arith)))
 
-  pub across-none : (d : ℕ) (p : List ℕ) (c : ℕ) → Next (ok p) n c None → across ok n m start d p c ≡ []
+  pub across-none : (d : ℕ) (p : List ℕ) (c : ℕ) → Next (ok p) n c None → across ok n d p c ≡ []
   unfolding across run
   across-none d p c h =
       let a : suc n - c ≡ (suc n - c) + 0 = omega arith in
       rw a (skips d p (suc n - c) 0 c (λ i x y. h i x (omega arith)))
 
-  pub across-some : (d : ℕ) (p : List ℕ) (c e : ℕ) → Next (ok p) n c (Some e) → across ok n m start d p c ≡ (push p e ∷ below ok n d (push p e)) ++ across ok n m start d p (suc e)
+  pub across-some : (d : ℕ) (p : List ℕ) (c e : ℕ) → Next (ok p) n c (Some e) → across ok n d p c ≡ (push p e ∷ below ok n d (push p e)) ++ across ok n d p (suc e)
   unfolding across run
   across-some d p c e h =
       let l = h .0 in
@@ -50,10 +50,11 @@ module _ (ok : List ℕ → ℕ → Bool) (n m start : ℕ) where
       ∙ ap (λ k. run (kids d p) (suc (suc n - suc e)) k) b
       ∙ ap (λ l. l ++ run (kids d p) (suc n - suc e) (suc e)) (cond-true (ok p e) (push p e ∷ below ok n d (push p e)) [] (h .2))
 
-  pub below-across : (d : ℕ) (p : List ℕ) → below ok n (suc d) p ≡ across ok n m start d p 0
+  pub below-across : (d : ℕ) (p : List ℕ) → below ok n (suc d) p ≡ across ok n d p 0
   unfolding below across
   below-across d p = let a : suc n - 0 ≡ suc n = omega arith in rw a
 
+module _ (ok : List ℕ → ℕ → Bool) (n m start : ℕ) where
   pub ends-set : (rows : List Row) (i : ℕ) (row : Row) → ends (set rows i row) ≡ set (ends rows) i (row .end)
   ends-set rows i row = map-set (λ (row : Row). row .end) rows i row
 
@@ -75,7 +76,7 @@ module _ (ok : List ℕ → ℕ → Bool) (n m start : ℕ) where
 
   -- back: row i finds no end
   pub left-back : (rows : List Row) (i c : ℕ) → Next (ok (places start rows i)) n c None → left ok n m start rows i c ≡ behind ok n m start rows i
-  left-back rows i c h = ap (λ xs. xs ++ behind ok n m start rows i) (across-none (m - suc i) (places start rows i) c h)
+  left-back rows i c h = ap (λ xs. xs ++ behind ok n m start rows i) (across-none ok n (m - suc i) (places start rows i) c h)
 
   -- forward: row i finds an end, and is not the last
   pub left-forward : (rows : List Row) (i c : ℕ) (row : Row) → suc i < m → i < length rows → Next (ok (places start rows i)) n c (Some (row .end)) → left ok n m start rows i c ≡ places start (set rows i row) (suc i) ∷ left ok n m start (set rows i row) (suc i) 0
@@ -84,12 +85,12 @@ module _ (ok : List ℕ → ℕ → Bool) (n m start : ℕ) where
       let z : m - suc i ≡ suc (m - suc (suc i)) = omega arith in
       let ks : i < length (ends rows) = omega (arith, length-map rows (λ (row : Row). row .end)) in
       let e : getD (ends (set rows i row)) i 0 ≡ row .end = ap (λ es. getD es i 0) (ends-set rows i row) ∙ getD-set-same (ends rows) i (row .end) 0 ks in
-      rw (places-set rows i row k, places-set-below rows i i row (omega arith), e, behind-set rows i i row (omega arith), across-some (m - suc i) (places start rows i) c (row .end) h, ap (λ d. below ok n d (push (places start rows i) (row .end))) z, below-across (m - suc (suc i)) (push (places start rows i) (row .end)))
-      (ap (λ xs. push (places start rows i) (row .end) ∷ xs) (append-assoc (across ok n m start (m - suc (suc i)) (push (places start rows i) (row .end)) 0) (across ok n m start (m - suc i) (places start rows i) (suc (row .end))) (behind ok n m start rows i)))
+      rw (places-set rows i row k, places-set-below rows i i row (omega arith), e, behind-set rows i i row (omega arith), across-some ok n (m - suc i) (places start rows i) c (row .end) h, ap (λ d. below ok n d (push (places start rows i) (row .end))) z, below-across ok n (m - suc (suc i)) (push (places start rows i) (row .end)))
+      (ap (λ xs. push (places start rows i) (row .end) ∷ xs) (append-assoc (across ok n (m - suc (suc i)) (push (places start rows i) (row .end)) 0) (across ok n (m - suc i) (places start rows i) (suc (row .end))) (behind ok n m start rows i)))
 
   -- row i finds an end
   pub left-some : (rows : List Row) (i c e : ℕ) → Next (ok (places start rows i)) n c (Some e) → (xs : List (List ℕ)) × (left ok n m start rows i c ≡ push (places start rows i) e ∷ xs)
-  left-some rows i c e h = ((below ok n (m - suc i) (push (places start rows i) e) ++ across ok n m start (m - suc i) (places start rows i) (suc e)) ++ behind ok n m start rows i, ap (λ xs. xs ++ behind ok n m start rows i) (across-some (m - suc i) (places start rows i) c e h))
+  left-some rows i c e h = ((below ok n (m - suc i) (push (places start rows i) e) ++ across ok n (m - suc i) (places start rows i) (suc e)) ++ behind ok n m start rows i, ap (λ xs. xs ++ behind ok n m start rows i) (across-some ok n (m - suc i) (places start rows i) c e h))
 
   pub behind-left : (rows : List Row) (j : ℕ) → j < length rows → behind ok n m start rows (suc j) ≡ left ok n m start rows j (getD rows j unused .end + 1)
   unfolding behind

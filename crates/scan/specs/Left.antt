@@ -27,14 +27,14 @@ beginning start rows k = getD (start ∷ ends rows) k 0
 abbrev pub places : ℕ → List Row → ℕ → List ℕ
 places start rows i = start ∷ take i (ends rows)
 
-module _ (ok : List ℕ → ℕ → Bool) (n m start : ℕ) where
-  -- the paths that go on from p by one number, c or larger, and by at most d after that
-  unfoldable pub across : ℕ → List ℕ → ℕ → List (List ℕ)
-  across d p c = run (λ k. cond (ok p k) (push p k ∷ below ok n d (push p k)) []) (suc n - c) c
+-- the paths that go on from p by one number, c or larger, and by at most d after that
+unfoldable pub across : (List ℕ → ℕ → Bool) → ℕ → ℕ → List ℕ → ℕ → List (List ℕ)
+across ok n d p c = run (λ k. cond (ok p k) (push p k ∷ below ok n d (push p k)) []) (suc n - c) c
 
+module _ (ok : List ℕ → ℕ → Bool) (n m start : ℕ) where
   -- what row i has left from the end c on
   abbrev pub here : List Row → ℕ → ℕ → List (List ℕ)
-  here rows i c = across (m - suc i) (places start rows i) c
+  here rows i c = across ok n (m - suc i) (places start rows i) c
 
   -- what the rows before row i have left behind their ends
   unfoldable pub behind : List Row → ℕ → List (List ℕ)

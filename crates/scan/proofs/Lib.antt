@@ -1,0 +1,14 @@
+pub mod Parts
+pub mod Walks
+pub mod Sizes
+pub mod Stack
+pub mod Suiting
+pub mod Courses
+pub mod Resuming
+pub mod Onward
+pub mod Starting
+pub mod Trying
+pub mod Eights
+pub mod Searching
+pub mod Fitting
+pub mod Saying

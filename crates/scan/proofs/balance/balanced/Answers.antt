@@ -1,0 +1,13 @@
+use native.Mathlib.Omega.{arith}
+use mathlib.Core.Path.{_≡_, sym, _∙_}
+use Rattle.scan.proofs.Walks.{plain-is, closing-is, balanced-plain, balanced-closing, balanced-opening}
+use Rattle.scan.proofs.balance.balanced.Needs as need
+
+pub returns-in-Plain : need.returns-in-Plain
+returns-in-Plain g c = balanced-plain _ _ _ _ (c .if-begin-subject .left) (c .index-subject-begin .is) (sym (c .in-Plain .ensures tt))
+
+pub returns-in-Opening : need.returns-in-Opening
+returns-in-Opening g c = balanced-opening _ _ _ _ _ (c .if-begin-subject .left) (c .index-subject-begin .is) (sym (c .in-Opening .ensures tt)) (c .closed .ensures)
+
+pub returns : need.returns
+returns g c = balanced-closing _ _ _ _ (c .if-begin-subject .left) (c .index-subject-begin .is) (sym (c .role-role .ensures) ∙ closing-is _ (c .in-rest .not-Plain) (c .in-rest-role .not-Opening))

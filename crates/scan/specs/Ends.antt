@@ -1,0 +1,48 @@
+-- Where the part of an element can end: for each kind of element the test of an end, and the first end that passes. Assumes nothing.
+use mathlib.Core.Path.{_≡_}
+use mathlib.Core.List.{List}
+use mathlib.Core.Bool.{Bool, true, false, _&&_, _||_, not}
+use Prim.Native.Nat.{ℕ, _<_, _≤_}
+use lib.ListN.{length}
+use lib.Dec.{eqb, leb}
+use Rattle.std.specs.declared.option.Option.{Option}
+use Rattle.std.specs.declared.option.Option.the-variants.{Some, None}
+use Rattle.symbols.specs.declared.role.Role.{Role}
+use Rattle.placings.specs.Pattern.{part}
+use Rattle.placings.specs.Enumeration.{same-parts, balanced-test}
+use Rattle.scan.specs.declared.element.Element.{Element}
+use Rattle.scan.specs.declared.element.Element.the-variants.{Compared, Fixed, Free}
+use Rattle.scan.specs.declared.element.Variable.{Variable}
+use Rattle.scan.specs.declared.element.Variable.the-variants.{Arbitrary, Balanced}
+
+-- the first number from c to n that passes a test, or that none does
+abbrev pub Next : (ℕ → Bool) → ℕ → ℕ → Option ℕ → Type 0
+Next test n c None = (k : ℕ) → c ≤ k → k ≤ n → test k ≡ false
+Next test n c (Some e) = (c ≤ e) × (e ≤ n) × (test e ≡ true) × ((k : ℕ) → c ≤ k → k < e → test k ≡ false)
+
+-- a part that begins at a and equals w can end at k
+abbrev pub compared-end : {A : Type 0} → (A → A → Bool) → List A → List A → ℕ → ℕ → Bool
+compared-end eq s w a k = leb a k && same-parts eq (part s a k) w
+
+-- a part that begins at a and has a given length can end at k
+abbrev pub fixed-end : {A : Type 0} → List A → ℕ → ℕ → ℕ → Bool
+fixed-end s size a k = leb a k && eqb (length (part s a k)) size
+
+-- any part that begins at a can end at k; as the last element's it ends where the subject does
+abbrev pub arbitrary-end : {A : Type 0} → List A → Bool → ℕ → ℕ → Bool
+arbitrary-end s last a k = leb a k && (not last || eqb k (length s))
+
+-- a balanced part that begins at a can end at k
+abbrev pub balanced-end : {A : Type 0} → (A → Role) → List A → ℕ → ℕ → Bool
+balanced-end role s a k = leb a k && balanced-test role (part s a k)
+
+-- the part of a variable that begins at a can end at k
+abbrev pub variable-end : {A : Type 0} → (A → Role) → List A → Bool → Variable → ℕ → ℕ → Bool
+variable-end role s last Arbitrary a k = arbitrary-end s last a k
+variable-end role s last Balanced a k = balanced-end role s a k
+
+-- the part of an element that begins at a can end at k, where w is what the element is compared with
+abbrev pub element-end : {A : Type 0} → (A → A → Bool) → (A → Role) → List A → List A → Bool → Element → ℕ → ℕ → Bool
+element-end eq role s w last (Compared source) a k = compared-end eq s w a k
+element-end eq role s w last (Fixed size) a k = fixed-end s size a k
+element-end eq role s w last (Free variable) a k = variable-end role s last variable a k

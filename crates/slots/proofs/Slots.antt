@@ -1,13 +1,14 @@
 -- What the calls of a slot store answer and leave, over the values of its fields. Assumes nothing.
 use mathlib.Core.Bool.{true, cond}
 use mathlib.Core.List.{List, [], _∷_}
-use mathlib.Core.Path.{_≡_, refl, sym, ap, _∙_}
+use mathlib.Core.Path.{_≡_, sym, ap, _∙_}
 use Prim.Native.Nat.{ℕ, zero, suc, _+_, _-_, _*_, _<_, _≤_, min}
 use native.Mathlib.Omega.{arith}
 use lib.ListN.{length, getD, set, take, drop, replicate}
 use Rattle.std.proofs.shelf.Tests.{cond-true}
 use Rattle.std.proofs.shelf.Lists.{length-set}
 use Rattle.std.specs.declared.option.Option.the-variants.{None}
+use Rattle.stores.specs.declared.part.Part.{Part}
 use Rattle.stores.specs.Names.{Names, nothing, size, limits, under, with-string}
 use Rattle.stores.specs.Ranges.{in-range, new-names}
 use Rattle.stores.specs.Calls.{number-refusal, put-refusal}
@@ -67,16 +68,16 @@ module _ {X : Type 0} (area : List X) (table : List ℕ) (n l : ℕ) where
       }
 
   -- the slot of number k, and its string
-  pub slot-found : (k : ℕ) → number-refusal (in-slots area table n l) k ≡ None → Slot (in-slots area table n l) area l k (record { start = (k - 1) * l; length = min (getD table (k - 1) 0) l })
-  slot-found k ok =
+  pub slot-found : (k : ℕ) (part : Part) → number-refusal (in-slots area table n l) k ≡ None → part .start ≡ (k - 1) * l → part .length ≡ min (getD table (k - 1) 0) l → Slot (in-slots area table n l) area l k part
+  slot-found k part ok es el =
       let i = slot-inside k ok in
       let low = i .low in let high = i .high in let few = i .ranges .few in let fits = i .fits in
-      let wide = slots-wide l (lengths n l table) (k - 1) (omega (arith, length-lengths n l table)) in
-      let string = ap (λ z. under z k) (i .is) ∙ laid-under (λ _. l) area table n l (n * l) k low high ∙ ap (λ z. take (min (getD table (k - 1) 0) l) (drop z area)) wide in
+      let wide = slots-wide l (lengths n l table) (k - 1) (omega (arith, length-lengths n l table)) ∙ sym es in
+      let string = ap (λ z. under z k) (i .is) ∙ laid-under (λ _. l) area table n l (n * l) k low high ∙ (λ j. take (sym el j) (drop (wide j) area)) in
       record {
         lies = record { accepts = ok; within = omega arith; string = string };
-        starts = refl;
-        fits = fits;
+        starts = es;
+        fits = omega arith;
         some = low;
         few = omega arith;
         short = i .ranges .short;

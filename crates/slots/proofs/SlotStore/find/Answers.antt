@@ -22,4 +22,4 @@ index-self-k g c = let i = inside g c in let low = i .low in let high = i .high 
 pub returns : need.returns
 returns g c =
     let ok = number-inside _ (c .args .number) _ (c .count .ensures) (c .if-is-outside .ensures tt) in
-    rw (c .min .ensures) (slot-found _ _ _ _ (c .args .number) ok)
+    slot-found _ _ _ _ (c .args .number) _ ok (omega arith) (omega arith)

@@ -19,10 +19,10 @@ use Rattle.scan.specs.declared.step.Move.the-variants.{Forward, Back, Spent}
 use Rattle.scan.specs.declared.walk.Resumed.the-variants.{At, Nowhere}
 use Rattle.scan.specs.declared.walk.Resumed.the-variants as resumed
 use Rattle.scan.specs.Elements.{pattern}
-use Rattle.scan.specs.Ends.{Next, element-end}
+use Rattle.scan.specs.Ends.{Next, NextEnd, element-end}
 use Rattle.scan.specs.Rows.{unused, advanced, compared-with}
 use Rattle.scan.specs.Steps.{course}
-use Rattle.scan.specs.Left.{beginning, places, behind, left, Standing, Retreats}
+use Rattle.scan.specs.Left.{follows, beginning, places, behind, left, Standing, Retreats}
 use Rattle.scan.proofs.Parts.{next-like}
 use Rattle.scan.proofs.Courses.{forward-is, back-is, spent-is}
 use Rattle.scan.proofs.Suiting.{may-is, may-refers}
@@ -32,17 +32,16 @@ use Rattle.scan.proofs.Stack.{left-forward, left-back, left-some, behind-left,
 pub stays : (rows : List Row) (i left : ℕ) (row : Row) (r : Option ℕ) → Back ≡ course false left r → row ≡ advanced (getD rows i unused) r → set rows i row ≡ rows
 stays rows i left row r q a = ap (set rows i) (a ∙ ap (advanced (getD rows i unused)) (back-is false left r q)) ∙ set-getD rows i unused
 
-module _ {A : Type 0} (eq : A → A → Bool) (role : A → Role) (s : List A) (es : List Element) (rows : List Row) (i : ℕ) (d : Element) where
-  -- what an element promises of the next end of row i
-  abbrev pub NextEnd : Option ℕ → Type 0
-  NextEnd r = (w : List A) → element-end eq role s w false (getD es i d) (getD rows i unused .begin) (getD rows i unused .end) ≡ true → Next (element-end eq role s w false (getD es i d) (getD rows i unused .begin)) (length s) (getD rows i unused .end + 1) r
+-- what an element promises of the next end of row i
+abbrev pub RowNext : {A : Type 0} → (A → A → Bool) → (A → Role) → List A → List Element → List Row → ℕ → Element → Option ℕ → Type 0
+RowNext eq role s es rows i d r = NextEnd eq role s (getD es i d) (getD rows i unused .begin) (getD rows i unused .end) r
 
 module _ {A : Type 0} (eq : A → A → Bool) (role : A → Role) (s constants : List A) (es : List Element) (start : ℕ) (rows : List Row) (from i : ℕ) (d : Element) where
   abbrev ok : List ℕ → ℕ → Bool
-  ok = may eq role Unanchored s (pattern constants es)
+  ok = follows eq role s constants es
 
   module _ (l : i < from) (short : from < length es) (few : length es ≤ 8) (st : Standing ok (length s) (length es) start rows from) where
-    resumes : (r : Option ℕ) → NextEnd eq role s es rows i d r → Next (ok (places start rows i)) (length s) (getD rows i unused .end + 1) r
+    resumes : (r : Option ℕ) → RowNext eq role s es rows i d r → Next (ok (places start rows i)) (length s) (getD rows i unused .end + 1) r
     resumes r h =
         let eight = st .eight in
         let a : i < length es = omega arith in
@@ -59,17 +58,17 @@ module _ {A : Type 0} (eq : A → A → Bool) (role : A → Role) (s constants :
     behind-here = let eight = st .eight in behind-left ok (length s) (length es) start rows i (omega arith)
 
     -- the row before finds no end
-    pub resume-back : (trials : ℕ) (r : Option ℕ) → NextEnd eq role s es rows i d r → Back ≡ course false trials r → behind ok (length s) (length es) start rows (suc i) ≡ behind ok (length s) (length es) start rows i
+    pub resume-back : (trials : ℕ) (r : Option ℕ) → RowNext eq role s es rows i d r → Back ≡ course false trials r → behind ok (length s) (length es) start rows (suc i) ≡ behind ok (length s) (length es) start rows i
     resume-back trials r h q =
         behind-here ∙ left-back ok (length s) (length es) start rows i (getD rows i unused .end + 1) (subst (Next (ok (places start rows i)) (length s) (getD rows i unused .end + 1)) (back-is false trials r q) (resumes r h))
 
-    pub resume-spent : (trials : ℕ) (r : Option ℕ) → NextEnd eq role s es rows i d r → Spent ≡ course false trials r → (trials ≡ 0) × (0 < count (length es) (behind ok (length s) (length es) start rows (suc i)))
+    pub resume-spent : (trials : ℕ) (r : Option ℕ) → RowNext eq role s es rows i d r → Spent ≡ course false trials r → (trials ≡ 0) × (0 < count (length es) (behind ok (length s) (length es) start rows (suc i)))
     resume-spent trials r h q =
         let x = spent-is false trials r q in
         let xs = left-some ok (length s) (length es) start rows i (getD rows i unused .end + 1) (x .0) (subst (Next (ok (places start rows i)) (length s) (getD rows i unused .end + 1)) (x .1) (resumes r h)) in
         (x .2, subst (λ ys. 0 < count (length es) ys) (sym (behind-here ∙ xs .1)) (count-some (length es) _ _))
 
-    pub resume-forward : (trials e : ℕ) (r : Option ℕ) (row : Row) → NextEnd eq role s es rows i d r → Forward e ≡ course false trials r → row ≡ advanced (getD rows i unused) r → behind ok (length s) (length es) start rows from ≡ behind ok (length s) (length es) start rows (suc i) → Retreats ok (length s) (length es) start rows from trials (set rows i row) (At i e)
+    pub resume-forward : (trials e : ℕ) (r : Option ℕ) (row : Row) → RowNext eq role s es rows i d r → Forward e ≡ course false trials r → row ≡ advanced (getD rows i unused) r → behind ok (length s) (length es) start rows from ≡ behind ok (length s) (length es) start rows (suc i) → Retreats ok (length s) (length es) start rows from trials (set rows i row) (At i e)
     resume-forward trials e r row h q a b =
         let x = forward-is false trials r e q in
         let eight = st .eight in

@@ -12,7 +12,7 @@ use Rattle.scan.specs.declared.walk.Resumed.the-variants.{At}
 use Rattle.scan.specs.Elements.{pattern}
 use Rattle.scan.specs.Rows.{unused, advanced}
 use Rattle.scan.specs.Left.{Retreats, Standing, behind}
-use Rattle.scan.proofs.Resuming.{NextEnd, stays, resume-back, resume-forward, resume-spent}
+use Rattle.scan.proofs.Resuming.{RowNext, stays, resume-back, resume-forward, resume-spent}
 use Rattle.scan.proofs.walk.retreat.Given as given
 use Rattle.scan.proofs.walk.retreat.Needs as need
 
@@ -34,7 +34,7 @@ returns-in-Forward g c = λ constants start st.
     let ok = may equal role Unanchored s (pattern constants es) in
     subst (λ (x : List Row). Retreats ok (length s) (length es) start rows (c .args .from) (c .args .left) (set x i (c .advance .last .row)) (At i (c .in-Forward .e))) (sym (c .loop-i .inv .0))
     (resume-forward equal role s constants es start rows (c .args .from) i (Compared (Constant 0 0)) l (c .pre .0) (c .pre .1 .0) st (c .args .left) (c .in-Forward .e) (c .advance .result) (c .advance .last .row)
-    (subst (λ (x : List Row). NextEnd equal role s es x i (Compared (Constant 0 0)) (c .advance .result)) (c .loop-i .inv .0) (c .advance .ensures .end))
+    (subst (λ (x : List Row). RowNext equal role s es x i (Compared (Constant 0 0)) (c .advance .result)) (c .loop-i .inv .0) (c .advance .ensures .end))
     (c .in-Forward .ensures tt)
     (subst (λ (x : List Row). c .advance .last .row ≡ advanced (getD x i unused) (c .advance .result)) (c .loop-i .inv .0) (c .advance .ensures .after))
     (c .loop-i .inv .2 constants start st ∙ ap (behind ok (length s) (length es) start rows) j))
@@ -54,7 +54,7 @@ loop-i-again g c =
       λ constants start st.
           c .loop-i .inv .2 constants start st ∙ ap (behind (may equal role Unanchored s (pattern constants es)) (length s) (length es) start rows) j
           ∙ resume-back equal role s constants es start rows (c .args .from) i (Compared (Constant 0 0)) l (c .pre .0) (c .pre .1 .0) st (c .args .left) (c .advance .result)
-          (subst (λ (x : List Row). NextEnd equal role s es x i (Compared (Constant 0 0)) (c .advance .result)) (c .loop-i .inv .0) (c .advance .ensures .end))
+          (subst (λ (x : List Row). RowNext equal role s es x i (Compared (Constant 0 0)) (c .advance .result)) (c .loop-i .inv .0) (c .advance .ensures .end))
           (c .in-Back .ensures tt),
     )
 
@@ -70,7 +70,7 @@ returns-in-Spent g c = λ constants start st.
     let rows = c .args .rows .now in
     let ok = may equal role Unanchored s (pattern constants es) in
     let h = resume-spent equal role s constants es start rows (c .args .from) i (Compared (Constant 0 0)) l (c .pre .0) (c .pre .1 .0) st (c .args .left) (c .advance .result)
-    (subst (λ (x : List Row). NextEnd equal role s es x i (Compared (Constant 0 0)) (c .advance .result)) (c .loop-i .inv .0) (c .advance .ensures .end))
+    (subst (λ (x : List Row). RowNext equal role s es x i (Compared (Constant 0 0)) (c .advance .result)) (c .loop-i .inv .0) (c .advance .ensures .end))
     (c .in-Spent .ensures tt) in
     (h .0, subst (λ xs. 0 < count (length es) xs) (sym (c .loop-i .inv .2 constants start st ∙ ap (behind ok (length s) (length es) start rows) j)) (h .1))
 

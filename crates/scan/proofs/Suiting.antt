@@ -25,6 +25,10 @@ use Rattle.scan.specs.Rows.{unused, compared-with}
 use Rattle.scan.specs.Left.{ends, beginning, places}
 use Rattle.scan.proofs.Parts.{next-like}
 
+-- the element that stands at i, as the code reads it
+abbrev pub element-at : List Element → ℕ → Element
+element-at es i = getD es i (Compared (Constant 0 0))
+
 -- a back reference of element i is to one further left
 abbrev pub SourceRefers : ℕ → Source → Type 0
 SourceRefers i (Constant from to) = Unit {0}

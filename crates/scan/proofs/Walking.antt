@@ -22,13 +22,9 @@ use Rattle.scan.specs.Rows.{unused, entered, compared-with, Readable, Parted}
 use Rattle.scan.specs.Steps.{course}
 use Rattle.scan.specs.Left.{beginning, places, follows, Standing, WalksBack, WalksFrom}
 use Rattle.scan.proofs.Parts.{next-like}
-use Rattle.scan.proofs.Suiting.{may-is, may-rises}
+use Rattle.scan.proofs.Suiting.{element-at, may-is, may-rises}
 use Rattle.scan.proofs.Fitting.{fit-at, fit-refers, fit-reads}
 use Rattle.scan.proofs.Onward.{Onward, onward-none, onward-forward, onward-placed, onward-spent, onward-resumed, onward-missed, onward-exceeded, standing-set}
-
--- the element that stands at i, as the code reads it
-abbrev pub element : List Element → ℕ → Element
-element es i = getD es i (Compared (Constant 0 0))
 
 -- the walk from a start stands before row i
 pub record Walking {A : Type 0} (eq : A → A → Bool) (role : A → Role) (s constants : List A) (es : List Element) (start trials : ℕ) (rows : List Row) (i begin now : ℕ) : Type 0 where
@@ -46,25 +42,25 @@ standing-parted eq role s constants es start rows i l few st k x =
     (omega (arith, st .begins k x), st .within k x)
 
 module _ {A : Type 0} {eq : A → A → Bool} {role : A → Role} {s constants : List A} {es : List Element} {start trials : ℕ} {rows : List Row} {i begin now : ℕ} (o : Walking eq role s constants es start trials rows i begin now) where
-  fits-here : fits (length constants) i (element es i) ≡ true
-  fits-here = let z : 0 + i ≡ i = omega arith in subst (λ j. fits (length constants) j (element es i) ≡ true) z (fit-at (length constants) 0 i es (Compared (Constant 0 0)) (o .fit) (o .onward .short))
+  fits-here : fits (length constants) i (element-at es i) ≡ true
+  fits-here = let z : 0 + i ≡ i = omega arith in subst (λ j. fits (length constants) j (element-at es i) ≡ true) z (fit-at (length constants) 0 i es (Compared (Constant 0 0)) (o .fit) (o .onward .short))
 
   -- what the element is compared with can be read
-  pub walking-reads : Readable (length s) (length constants) rows (element es i)
+  pub walking-reads : Readable (length s) (length constants) rows (element-at es i)
   walking-reads =
       let l = o .onward .short in
       let few = o .few in
-      fit-reads (length s) (length constants) i rows (element es i) (omega arith) (standing-parted eq role s constants es start rows i (omega arith) few (o .onward .stands)) fits-here
+      fit-reads (length s) (length constants) i rows (element-at es i) (omega arith) (standing-parted eq role s constants es start rows i (omega arith) few (o .onward .stands)) fits-here
 
   -- what the element finds is what may follow
-  module _ {w : List A} (r : Option ℕ) (row : Row) (other : w ≡ compared-with s constants rows (element es i)) (h : FirstEnd eq role s w (eqb (i + 1) (length es)) (element es i) begin r) (entry : row ≡ entered (getD rows i unused) begin r) where
+  module _ {w : List A} (r : Option ℕ) (row : Row) (other : w ≡ compared-with s constants rows (element-at es i)) (h : FirstEnd eq role s w (eqb (i + 1) (length es)) (element-at es i) begin r) (entry : row ≡ entered (getD rows i unused) begin r) where
     found : Next (follows eq role s constants es (places start rows i)) (length s) 0 r
     found =
         let eight = o .onward .stands .eight in
         let l = o .onward .short in
         let few = o .few in
         let last = eqb (i + 1) (length es) in
-        let x = element es i in
+        let x = element-at es i in
         next-like (element-end eq role s w last x begin) (follows eq role s constants es (places start rows i)) (length s) 0 r
         (λ k _ _. may-is eq role Unanchored s constants es start rows i (Compared (Constant 0 0)) l (omega arith) last refl (o .onward .stands .begins) (fit-refers (length constants) i x fits-here) k
         ∙ ap (λ v. element-end eq role s v last x (beginning start rows i) k) (sym other)

@@ -137,8 +137,8 @@ mod tests {
                     Mode::Unanchored,
                     1_000_000,
                 )?,
-            ).2,
-            [6, 9, 10, 15, 16, 19, 20, 0],
+            ),
+            (5, 7, [6, 9, 10, 15, 16, 19, 20, 0], 87),
         )?;
         check_eq(
             told(scan_log(b")", b"", &[EVEN], Mode::Unanchored, 1000)?),

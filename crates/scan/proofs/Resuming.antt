@@ -1,18 +1,17 @@
 -- A walk back, row by row. Assumes nothing.
 use mathlib.Core.Path.{_≡_, refl, sym, ap, subst, _∙_}
-use mathlib.Core.List.{List, [], _∷_}
-use mathlib.Core.Bool.{Bool, true, false}
-use Prim.Native.Nat.{ℕ, zero, suc, _+_, _-_, _<_, _≤_}
+use mathlib.Core.List.{List}
+use mathlib.Core.Bool.{Bool, false}
+use Prim.Native.Nat.{ℕ, suc, _+_, _-_, _<_, _≤_}
 use native.Mathlib.Omega.{arith}
 use lib.ListN.{length, getD, set}
-use lib.Dec.{eqb}
 use Rattle.std.proofs.shelf.Lists.{set-getD}
 use Rattle.std.proofs.shelf.Tests.{ne-eqb}
 use Rattle.std.specs.declared.option.Option.{Option}
-use Rattle.std.specs.declared.option.Option.the-variants.{Some, None}
+use Rattle.std.specs.declared.option.Option.the-variants.{Some}
 use Rattle.symbols.specs.declared.role.Role.{Role}
 use Rattle.placings.specs.declared.mode.Mode.the-variants.{Unanchored}
-use Rattle.placings.specs.Enumeration.{may, count}
+use Rattle.placings.specs.Enumeration.{count}
 use Rattle.scan.specs.declared.element.Element.{Element}
 use Rattle.scan.specs.declared.element.Element.the-variants.{Compared}
 use Rattle.scan.specs.declared.element.Source.the-variants.{Constant}
@@ -20,11 +19,10 @@ use Rattle.scan.specs.declared.row.Row.{Row}
 use Rattle.scan.specs.declared.step.Move.the-variants.{Forward, Back, Spent}
 use Rattle.scan.specs.declared.walk.Resumed.the-variants.{At, Nowhere}
 use Rattle.scan.specs.declared.walk.Resumed.the-variants as resumed
-use Rattle.scan.specs.Elements.{pattern}
 use Rattle.scan.specs.Ends.{Next, NextEnd, element-end}
 use Rattle.scan.specs.Rows.{unused, advanced, compared-with, Parted}
 use Rattle.scan.specs.Steps.{course}
-use Rattle.scan.specs.Left.{follows, beginning, places, behind, left, Standing, Retreats, WalksBack}
+use Rattle.scan.specs.Left.{follows, places, behind, left, Standing, Retreats, WalksBack}
 use Rattle.scan.proofs.Parts.{next-like}
 use Rattle.scan.proofs.Courses.{forward-is, back-is, spent-is}
 use Rattle.scan.proofs.Suiting.{element-at, may-is, may-refers}

@@ -1,9 +1,9 @@
 -- The search over all starts, in terms of what the scan returns. Assumes nothing.
-use mathlib.Core.Path.{_≡_, refl, sym, ap, subst, _∙_}
+use mathlib.Core.Path.{_≡_, sym, ap, subst, _∙_}
 use mathlib.Core.List.{List, [], _∷_}
-use mathlib.Core.Bool.{Bool, true, false, cond}
+use mathlib.Core.Bool.{Bool, false, cond}
 use mathlib.Core.Logic.{⊎-elim}
-use Prim.Native.Nat.{ℕ, suc, _+_, _-_, _<_, _≤_}
+use Prim.Native.Nat.{ℕ, _+_, _-_, _<_, _≤_}
 use native.Mathlib.Omega.{arith}
 use lib.ListN.{length}
 use lib.Dec.{leb}
@@ -12,11 +12,11 @@ use Rattle.std.proofs.shelf.Tests.{cond-true, cond-false, le-leb, lt-leb, cases
 use Rattle.std.specs.declared.option.Option.{Option}
 use Rattle.std.specs.declared.option.Option.the-variants.{Some, None}
 use Rattle.std.specs.declared.result.Result.{Result}
-use Rattle.std.specs.declared.result.Result.the-variants.{Ok, Err}
+use Rattle.std.specs.declared.result.Result.the-variants.{Ok}
 use Rattle.symbols.specs.declared.role.Role.{Role}
 use Rattle.placings.specs.declared.mode.Mode.{Mode}
 use Rattle.placings.specs.Tree.{below, paths}
-use Rattle.placings.specs.Enumeration.{may, answer, scanned, success, failure, spent}
+use Rattle.placings.specs.Enumeration.{may, answer, scanned, failure, spent}
 use Rattle.scan.specs.declared.answer.Placed.{Placed}
 use Rattle.scan.specs.declared.answer.Scanned.{Scanned}
 use Rattle.scan.specs.declared.answer.ScanRefusal.{ScanRefusal}

@@ -1,54 +1,29 @@
 -- A walk from one start, move by move. Assumes nothing.
 use mathlib.Core.Path.{_≡_, refl, sym, ap, subst, _∙_}
-use mathlib.Core.List.{List, [], _∷_, _++_, append-nil}
-use mathlib.Core.Bool.{Bool, true, false, _&&_}
+use mathlib.Core.List.{List, [], _∷_, append-nil}
+use mathlib.Core.Bool.{Bool}
 use mathlib.Core.Logic.{_≢_}
-use Prim.Native.Nat.{ℕ, zero, suc, _+_, _-_, _<_, _≤_}
+use Prim.Native.Nat.{ℕ, suc, _+_, _-_, _<_, _≤_}
 use native.Mathlib.Omega.{arith}
 use lib.ListN.{length, getD, set}
-use lib.Dec.{eqb, leb, ltb}
+use lib.Dec.{eqb}
 use Rattle.std.proofs.shelf.Lists.{length-set, getD-set-other, getD-set-same}
-use Rattle.std.proofs.shelf.Tests.{and-parts, leb-true, ltb-true, eqb-true, eqb-false}
+use Rattle.std.proofs.shelf.Tests.{eqb-true, eqb-false}
 use Rattle.std.specs.declared.option.Option.{Option}
-use Rattle.std.specs.declared.option.Option.the-variants.{Some, None}
-use Rattle.symbols.specs.declared.role.Role.{Role}
-use Rattle.placings.specs.declared.mode.Mode.the-variants.{Unanchored}
+use Rattle.std.specs.declared.option.Option.the-variants.{Some}
 use Rattle.placings.specs.Tree.{below, push}
-use Rattle.placings.specs.Enumeration.{may, first, count}
-use Rattle.scan.specs.declared.element.Element.{Element}
-use Rattle.scan.specs.declared.element.Element.the-variants.{Compared, Fixed, Free}
-use Rattle.scan.specs.declared.element.Source.the-variants.{Constant, Back}
+use Rattle.placings.specs.Enumeration.{first, count}
 use Rattle.scan.specs.declared.row.Row.{Row}
 use Rattle.scan.specs.declared.step.Move.the-variants as move
 use Rattle.scan.specs.declared.walk.Resumed.the-variants.{At, Nowhere, Spent}
 use Rattle.scan.specs.declared.walk.Ended.the-variants.{Placed, Missed, Exceeded}
-use Rattle.scan.specs.Elements.{pattern, fits, all-fit}
-use Rattle.scan.specs.Ends.{Next, element-end}
-use Rattle.scan.specs.Rows.{unused, entered, compared-with, Readable, Parted}
+use Rattle.scan.specs.Ends.{Next}
+use Rattle.scan.specs.Rows.{unused, entered}
 use Rattle.scan.specs.Steps.{course}
-use Rattle.scan.specs.Left.{ends, beginning, places, behind, left, Standing, Retreats, Ends}
-use Rattle.scan.proofs.Parts.{next-like}
+use Rattle.scan.specs.Left.{beginning, places, behind, left, Standing, Retreats, Ends}
 use Rattle.scan.proofs.Courses.{forward-is, back-is, done-is, spent-is}
-use Rattle.scan.proofs.Suiting.{Refers, may-is, may-rises, length-places}
-use Rattle.scan.proofs.Stack.{below-across, left-forward, left-back, left-some, behind-set, places-set, places-set-below, standing-none, standing-less, standing-more, beginning-more, beginning-set, first-full, first-more, count-full, count-more, count-some}
-
-pub fit-at : (c b i : ℕ) (es : List Element) (d : Element) → all-fit c b es ≡ true → i < length es → fits c (b + i) (getD es i d) ≡ true
-unfolding all-fit
-fit-at c b i [] d t l = absurd (omega arith)
-fit-at c b zero (x ∷ es) d t l = let z : b + 0 ≡ b = omega arith in rw z (and-parts (fits c b x) _ t .0)
-fit-at c b (suc i) (x ∷ es) d t l = let z : b + suc i ≡ suc b + i = omega arith in rw z (fit-at c (suc b) i es d (and-parts (fits c b x) _ t .1) (omega arith))
-
-pub fit-refers : (c i : ℕ) (x : Element) → fits c i x ≡ true → Refers i x
-fit-refers c i (Compared (Constant from to)) t = tt
-fit-refers c i (Compared (Back j)) t = ltb-true j i t
-fit-refers c i (Fixed size) t = tt
-fit-refers c i (Free variable) t = tt
-
-fit-reads : (n c i : ℕ) (rows : List Row) (x : Element) → i < 8 → Parted n rows i → fits c i x ≡ true → Readable n c rows x
-fit-reads n c i rows (Compared (Constant from to)) l p t = let h = and-parts (leb from to) _ t in (leb-true from to (h .0), leb-true to c (h .1))
-fit-reads n c i rows (Compared (Back j)) l p t = let h = ltb-true j i t in let q = p j h in (omega arith, q .0, q .1)
-fit-reads n c i rows (Fixed size) l p t = tt
-fit-reads n c i rows (Free variable) l p t = tt
+use Rattle.scan.proofs.Suiting.{length-places}
+use Rattle.scan.proofs.Stack.{below-across, left-forward, left-back, left-some, behind-set, places-set, places-set-below, standing-none, standing-more, beginning-more, beginning-set, first-full, first-more, count-full, count-more, count-some}
 
 -- the walk stands before row i, and of all that there is to try the rest is left
 pub record Onward (ok : List ℕ → ℕ → Bool) (n m start trials : ℕ) (rows : List Row) (i begin now : ℕ) : Type 0 where
@@ -130,7 +105,6 @@ module _ (ok : List ℕ → ℕ → Bool) (n m start trials : ℕ) where
         let c = o .counts in (
           o .firsts ∙ ap (first m) (xs .1) ∙ first-full m (push (places start rows i) (x .0)) (xs .0) full ∙ ap Some (sym all),
           omega (arith, ap (count m) (xs .1), count-full m (push (places start rows i) (x .0)) (xs .0) full),
-          length-set rows i row ∙ eight,
         )
 
     pub onward-spent : (after : List Row) → move.Spent ≡ course last now r → Ends m start (below ok n m (start ∷ [])) trials after Exceeded
@@ -164,27 +138,3 @@ module _ (ok : List ℕ → ℕ → Bool) (n m start trials : ℕ) where
 
       pub onward-exceeded : (after : List Row) → Retreats ok n m start (set rows i row) i now after Spent → Ends m start (below ok n m (start ∷ [])) trials after Exceeded
       onward-exceeded after h = let c = o .counts in omega (arith, ap (count m) passed-on)
-
-module _ {A : Type 0} (eq : A → A → Bool) (role : A → Role) (s constants : List A) (es : List Element) (start : ℕ) (rows : List Row) (i : ℕ) where
-  abbrev ok : List ℕ → ℕ → Bool
-  ok = may eq role Unanchored s (pattern constants es)
-
-  pub standing-parted : i ≤ length es → length es ≤ 8 → Standing ok (length s) (length es) start rows i → Parted (length s) rows i
-  standing-parted l few st k x =
-      let eight = st .eight in
-      let up = may-rises eq role Unanchored s constants es start rows k (Fixed 0) (omega arith) (omega arith) (getD rows k unused .end) (st .suits k x) in
-      (omega (arith, st .begins k x), st .within k x)
-
-  pub standing-reads : (d : Element) → i < length es → length es ≤ 8 → all-fit (length constants) 0 es ≡ true → Standing ok (length s) (length es) start rows i → Readable (length s) (length constants) rows (getD es i d)
-  standing-reads d l few t st = let z : 0 + i ≡ i = omega arith in fit-reads (length s) (length constants) i rows (getD es i d) (omega arith) (standing-parted (omega arith) few st) (subst (λ j. fits (length constants) j (getD es i d) ≡ true) z (fit-at (length constants) 0 i es d t l))
-
-  pub onward-next : (d : Element) (w : List A) (last : Bool) (begin : ℕ) (r : Option ℕ) → i < length es → length es ≤ 8 → all-fit (length constants) 0 es ≡ true → Standing ok (length s) (length es) start rows i → last ≡ eqb (i + 1) (length es) → w ≡ compared-with s constants rows (getD es i d) → begin ≡ beginning start rows i → Next (element-end eq role s w last (getD es i d) begin) (length s) 0 r → Next (ok (places start rows i)) (length s) 0 r
-  onward-next d w last begin r l few t st lastly other b h =
-      let eight = st .eight in
-      let z : 0 + i ≡ i = omega arith in
-      let fit = subst (λ j. fits (length constants) j (getD es i d) ≡ true) z (fit-at (length constants) 0 i es d t l) in
-      next-like (element-end eq role s w last (getD es i d) begin) (ok (places start rows i)) (length s) 0 r
-      (λ k x y. may-is eq role Unanchored s constants es start rows i d l (omega arith) last lastly (st .begins) (fit-refers (length constants) i (getD es i d) fit) k
-      ∙ ap (λ v. element-end eq role s v last (getD es i d) (beginning start rows i) k) (sym other)
-      ∙ ap (λ a. element-end eq role s w last (getD es i d) a k) (sym b))
-      h

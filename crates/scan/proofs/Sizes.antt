@@ -1,14 +1,13 @@
 -- Parts whose length is known have one end. Assumes nothing.
-use mathlib.Core.Path.{_≡_, refl, sym, ap, subst, _∙_}
-use mathlib.Core.List.{List, [], _∷_}
+use mathlib.Core.Path.{_≡_, sym, ap, _∙_}
+use mathlib.Core.List.{List}
 use mathlib.Core.Bool.{Bool, true, false, _&&_}
-use mathlib.Core.Logic.{_⊎_, inl, inr, ⊎-elim}
-use Prim.Native.Nat.{ℕ, zero, suc, _+_, _-_, _<_, _≤_}
+use mathlib.Core.Logic.{_⊎_, ⊎-elim}
+use Prim.Native.Nat.{ℕ, _+_, _-_, _<_, _≤_}
 use native.Mathlib.Omega.{arith}
-use lib.ListN.{length, getD}
-use lib.Dec.{eqb, leb, ltb}
-use Rattle.std.proofs.shelf.Tests.{and-right, and-left, and-from, and-parts, eqb-true, lt-leb, le-leb, leb-true, ne-eqb, eq-eqb, cases-eq, cases-lt, cases-bool}
-use Rattle.std.specs.declared.option.Option.{Option}
+use lib.ListN.{length}
+use lib.Dec.{eqb, leb}
+use Rattle.std.proofs.shelf.Tests.{and-from, and-parts, eqb-true, le-leb, leb-true, eq-eqb, cases-eq, cases-bool}
 use Rattle.std.specs.declared.option.Option.the-variants.{Some, None}
 use Rattle.placings.specs.Pattern.{part}
 use Rattle.placings.specs.Enumeration.{same-parts}

@@ -1,15 +1,14 @@
 -- What a scan has left to try, and how a move changes it. Assumes nothing.
-use mathlib.Core.Path.{_≡_, refl, sym, ap, subst, _∙_}
-use mathlib.Core.List.{List, [], _∷_, _++_, append-assoc, append-nil}
+use mathlib.Core.Path.{_≡_, refl, ap, _∙_}
+use mathlib.Core.List.{List, [], _∷_, _++_, append-assoc}
 use mathlib.Core.Bool.{Bool, true, false, cond}
-use mathlib.Core.Logic.{_⊎_, inl, inr, ⊎-elim, _≢_}
+use mathlib.Core.Logic.{_⊎_, ⊎-elim, _≢_}
 use Prim.Native.Nat.{ℕ, zero, suc, _+_, _-_, _<_, _≤_}
 use native.Mathlib.Omega.{arith}
 use lib.ListN.{length, take, getD, set}
-use lib.Dec.{eqb, leb}
-use Rattle.std.proofs.shelf.Lists.{length-push, take-set-le, getD-set-other, getD-set-same, take-more-set, length-take-le, length-map, length-set, map-set}
+use lib.Dec.{eqb}
+use Rattle.std.proofs.shelf.Lists.{take-set-le, getD-set-other, getD-set-same, take-more-set, length-map, length-set, map-set}
 use Rattle.std.proofs.shelf.Tests.{cond-true, cond-false, eq-eqb, ne-eqb, cases-eq}
-use Rattle.std.specs.declared.option.Option.{Option}
 use Rattle.std.specs.declared.option.Option.the-variants.{Some, None}
 use Rattle.placings.specs.Tree.{push, run, below}
 use Rattle.placings.specs.Enumeration.{first, count}

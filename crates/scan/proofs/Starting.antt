@@ -1,13 +1,13 @@
 -- Where a scan starts: the symbol that it looks for, and what it passes over. Assumes nothing.
-use mathlib.Core.Path.{_≡_, refl, sym, ap, subst, _∙_}
+use mathlib.Core.Path.{_≡_, refl, sym, ap, _∙_}
 use mathlib.Core.List.{List, [], _∷_, _++_}
-use mathlib.Core.Bool.{Bool, true, false, cond, _&&_}
+use mathlib.Core.Bool.{Bool, true, false, cond}
 use Prim.Native.Nat.{ℕ, zero, suc, _+_, _-_, _<_, _≤_}
 use native.Mathlib.Omega.{arith}
 use lib.ListN.{length, take, drop, getD}
-use lib.Dec.{leb, eqb}
+use lib.Dec.{leb}
 use Rattle.std.proofs.shelf.Lists.{drop-more, drop-all}
-use Rattle.std.proofs.shelf.Tests.{and-right, and-left, false≢true, true≢false, le-leb, ne-eqb, lt-leb}
+use Rattle.std.proofs.shelf.Tests.{and-right, and-left, true≢false, le-leb, ne-eqb, lt-leb}
 use Rattle.std.specs.declared.option.Option.{Option}
 use Rattle.std.specs.declared.option.Option.the-variants.{Some, None}
 use Rattle.symbols.specs.declared.role.Role.{Role}
@@ -20,8 +20,6 @@ use Rattle.scan.specs.declared.element.Element.{Element}
 use Rattle.scan.specs.declared.element.Element.the-variants.{Compared, Fixed, Free}
 use Rattle.scan.specs.declared.element.Source.the-variants.{Constant, Back}
 use Rattle.scan.specs.Elements.{pattern}
-use Rattle.scan.specs.Ends.{Next}
-use Rattle.scan.specs.Left.{across}
 use Rattle.scan.specs.Starts.{last-start, front, pattern-front, head-of, begins-with, stops-at, Everywhere}
 use Rattle.scan.proofs.Parts.{part-more}
 use Rattle.scan.proofs.Stack.{across-none, below-across}

@@ -1,14 +1,13 @@
 -- The test of an end by the places so far is the test of the element that stands there. Assumes nothing.
-use mathlib.Core.Path.{_≡_, refl, sym, ap, subst, _∙_}
-use mathlib.Core.List.{List, [], _∷_}
-use mathlib.Core.Bool.{Bool, true, false, _&&_, _||_, not}
+use mathlib.Core.Path.{_≡_, refl, sym, ap, _∙_}
+use mathlib.Core.List.{List}
+use mathlib.Core.Bool.{Bool, true, _&&_, _||_, not}
 use Prim.Native.Nat.{ℕ, zero, suc, _+_, _-_, _<_, _≤_}
 use native.Mathlib.Omega.{arith}
-use lib.ListN.{length, take, getD}
-use lib.Dec.{eqb, leb, ltb}
+use lib.ListN.{length, getD}
+use lib.Dec.{eqb, leb}
 use Rattle.std.proofs.shelf.Lists.{getD-map, length-map, length-take-le, getD-take}
 use Rattle.std.proofs.shelf.Tests.{and-parts, leb-true, ltb-true, lt-ltb}
-use Rattle.std.specs.declared.option.Option.{Option}
 use Rattle.symbols.specs.declared.role.Role.{Role}
 use Rattle.placings.specs.declared.mode.Mode.{Mode}
 use Rattle.placings.specs.Pattern.{arbitrary, part}
@@ -20,10 +19,13 @@ use Rattle.scan.specs.declared.element.Source.the-variants.{Constant, Back}
 use Rattle.scan.specs.declared.element.Variable.the-variants.{Arbitrary, Balanced}
 use Rattle.scan.specs.declared.row.Row.{Row}
 use Rattle.scan.specs.Elements.{stands, pattern}
-use Rattle.scan.specs.Ends.{Next, element-end}
+use Rattle.scan.specs.Ends.{element-end}
 use Rattle.scan.specs.Rows.{unused, compared-with}
 use Rattle.scan.specs.Left.{ends, beginning, places}
-use Rattle.scan.proofs.Parts.{next-like}
+
+-- the element that stands at i, as the code reads it
+abbrev pub element-at : List Element → ℕ → Element
+element-at es i = getD es i (Compared (Constant 0 0))
 
 -- a back reference of element i is to one further left
 abbrev pub SourceRefers : ℕ → Source → Type 0

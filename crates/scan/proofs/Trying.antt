@@ -9,13 +9,13 @@ use lib.Dec.{leb, eqb}
 use Rattle.std.proofs.shelf.Tests.{cond-true, cond-false, le-leb, lt-leb}
 use Rattle.std.specs.declared.option.Option.{Option}
 use Rattle.std.specs.declared.option.Option.the-variants.{Some, None}
-use Rattle.placings.specs.Tree.{push, below, paths}
+use Rattle.placings.specs.Tree.{below, paths}
 use Rattle.placings.specs.Enumeration.{first, count, answer, tells, success, failure, spent}
 use Rattle.scan.specs.declared.row.Row.{Row}
 use Rattle.scan.specs.declared.walk.Ended.the-variants.{Placed, Missed, Exceeded}
 use Rattle.scan.specs.Ends.{Next}
 use Rattle.scan.specs.Left.{across, places, Ends}
-use Rattle.scan.proofs.Stack.{across-none, across-some, below-across, first-more, count-more, count-some}
+use Rattle.scan.proofs.Stack.{across-none, across-some, below-across, first-more, count-more}
 
 module _ (m : ℕ) where
   first-append : (xs ys : List (List ℕ)) (p : List ℕ) → first m xs ≡ Some p → (first m (xs ++ ys) ≡ Some p) × (count m (xs ++ ys) ≡ count m xs)

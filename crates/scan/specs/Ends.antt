@@ -2,7 +2,7 @@
 use mathlib.Core.Path.{_≡_}
 use mathlib.Core.List.{List}
 use mathlib.Core.Bool.{Bool, true, false, _&&_, _||_, not}
-use Prim.Native.Nat.{ℕ, _<_, _≤_}
+use Prim.Native.Nat.{ℕ, _+_, _<_, _≤_}
 use lib.ListN.{length}
 use lib.Dec.{eqb, leb}
 use Rattle.std.specs.declared.option.Option.{Option}
@@ -46,3 +46,11 @@ abbrev pub element-end : {A : Type 0} → (A → A → Bool) → (A → Role) �
 element-end eq role s w last (Compared source) a k = compared-end eq s w a k
 element-end eq role s w last (Fixed size) a k = fixed-end s size a k
 element-end eq role s w last (Free variable) a k = variable-end role s last variable a k
+
+-- the first end of the part of an element that begins at a
+abbrev pub FirstEnd : {A : Type 0} → (A → A → Bool) → (A → Role) → List A → List A → Bool → Element → ℕ → Option ℕ → Type 0
+FirstEnd eq role s w last element a r = Next (element-end eq role s w last element a) (length s) 0 r
+
+-- the next end of the part of an element, not the last one, behind an end e of it; whatever the element is compared with
+abbrev pub NextEnd : {A : Type 0} → (A → A → Bool) → (A → Role) → List A → Element → ℕ → ℕ → Option ℕ → Type 0
+NextEnd {A} eq role s element a e r = (w : List A) → element-end eq role s w false element a e ≡ true → Next (element-end eq role s w false element a) (length s) (e + 1) r

@@ -4,15 +4,18 @@ use mathlib.Core.List.{List, [], _∷_, _++_, map}
 use mathlib.Core.Bool.{Bool, true, cond}
 use Prim.Native.Nat.{ℕ, zero, suc, _+_, _-_, _<_, _≤_}
 use lib.ListN.{length, take, getD, set}
-use Rattle.std.specs.declared.option.Option.{Option}
 use Rattle.std.specs.declared.option.Option.the-variants.{Some, None}
 use Rattle.placings.specs.Tree.{push, run, below}
-use Rattle.placings.specs.Enumeration.{first, count}
+use Rattle.symbols.specs.declared.role.Role.{Role}
+use Rattle.placings.specs.declared.mode.Mode.the-variants.{Unanchored}
+use Rattle.placings.specs.Enumeration.{may, first, count}
+use Rattle.scan.specs.declared.element.Element.{Element}
 use Rattle.scan.specs.declared.row.Row.{Row}
 use Rattle.scan.specs.declared.walk.Resumed.{Resumed}
 use Rattle.scan.specs.declared.walk.Resumed.the-variants.{At, Nowhere, Spent}
 use Rattle.scan.specs.declared.walk.Ended.{Ended}
 use Rattle.scan.specs.declared.walk.Ended.the-variants.{Placed, Missed, Exceeded}
+use Rattle.scan.specs.Elements.{pattern}
 use Rattle.scan.specs.Rows.{unused, advanced}
 
 -- the ends that rows hold
@@ -62,6 +65,19 @@ module _ (ok : List ℕ → ℕ → Bool) (n m start : ℕ) where
 -- how a scan from one start ends, where `tried` is all there is to try and `trials` are left:
 -- with the first placing in the rows, or with none, and with so many trials left; or with too few trials
 abbrev pub Ends : ℕ → ℕ → List (List ℕ) → ℕ → List Row → Ended → Type 0
-Ends m start tried trials rows (Placed rest) = (first m tried ≡ Some (places start rows m)) × (count m tried + rest ≡ trials) × (length rows ≡ 8)
+Ends m start tried trials rows (Placed rest) = (first m tried ≡ Some (places start rows m)) × (count m tried + rest ≡ trials)
 Ends m start tried trials rows (Missed rest) = (first m tried ≡ None) × (count m tried + rest ≡ trials)
 Ends m start tried trials rows Exceeded = trials < count m tried
+
+-- whether an end may follow the places so far, a start at least: the mode has no say in it
+abbrev pub follows : {A : Type 0} → (A → A → Bool) → (A → Role) → List A → List A → List Element → List ℕ → ℕ → Bool
+follows eq role s constants elements = may eq role Unanchored s (pattern constants elements)
+
+-- what a walk back from row i finds, whatever the constants and the start are that the rows stand on
+abbrev pub WalksBack : {A : Type 0} → (A → A → Bool) → (A → Role) → List A → List Element → List Row → ℕ → ℕ → List Row → Resumed → Type 0
+WalksBack {A} eq role s elements rows i trials after r =
+    (constants : List A) (start : ℕ) → Standing (follows eq role s constants elements) (length s) (length elements) start rows i → Retreats (follows eq role s constants elements) (length s) (length elements) start rows i trials after r
+
+-- how a walk from one start ends: it tries all partial placings that go on from the start
+abbrev pub WalksFrom : {A : Type 0} → (A → A → Bool) → (A → Role) → List A → List A → List Element → ℕ → ℕ → List Row → Ended → Type 0
+WalksFrom eq role s constants elements start trials rows r = Ends (length elements) start (below (follows eq role s constants elements) (length s) (length elements) (start ∷ [])) trials rows r

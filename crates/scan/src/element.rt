@@ -14,6 +14,7 @@ pub enum Variable {
     Balanced,
 }
 
+// An element by how its part ends: equal to another part, after so many symbols, or freely.
 #[derive(Clone, Copy)]
 pub enum Element {
     Compared(Source),

@@ -1,10 +1,9 @@
 // Where the part of an element can end.
 ghost use mathlib.Core.Path.{_≡_};
-ghost use mathlib.Core.Bool.{true, false};
-ghost use mathlib.Core.List.{List};
-ghost use Prim.Native.Nat.{ℕ, _+_, _≤_};
+ghost use mathlib.Core.Bool.{false};
+ghost use Prim.Native.Nat.{_+_, _≤_};
 ghost use lib.ListN.{length};
-ghost use Rattle.scan.specs.Ends.{Next, compared-end, fixed-end, arbitrary-end, balanced-end, variable-end, element-end};
+ghost use Rattle.scan.specs.Ends.{Next, FirstEnd, NextEnd, compared-end, fixed-end, arbitrary-end, balanced-end};
 ghost use Rattle.scan.specs.Rows.{entered, advanced};
 use crate::balance::balanced;
 use crate::element::Element;
@@ -73,7 +72,7 @@ fn first_end<K: Kind>(
     begin: usize,
 ) -> Option<usize>
     requires { ⌜ begin ≤ length (now subject) ⌝ }
-    ensures { λ r. ⌜ Next (element-end (K·Kind .equal) (K·Kind .acts (now (kind .entry))) (now (subject .entry)) (now (other .entry)) last element begin) (length (now (subject .entry))) 0 r ⌝ }
+    ensures { λ r. ⌜ FirstEnd (K·Kind .equal) (K·Kind .acts (now (kind .entry))) (now (subject .entry)) (now (other .entry)) last element begin r ⌝ }
 {
     match element {
         Element::Compared(_) => compared_end(kind, subject, other, begin),
@@ -106,7 +105,7 @@ fn next_end<K: Kind>(
     end: usize,
 ) -> Option<usize>
     requires { ⌜ begin ≤ end ⌝ ∗ ⌜ end ≤ length (now subject) ⌝ }
-    ensures { λ r. ⌜ ((w : List K·Symbol) → element-end (K·Kind .equal) (K·Kind .acts (now (kind .entry))) (now (subject .entry)) w false element begin end ≡ true → Next (element-end (K·Kind .equal) (K·Kind .acts (now (kind .entry))) (now (subject .entry)) w false element begin) (length (now (subject .entry))) (end + 1) r) ⌝ }
+    ensures { λ r. ⌜ NextEnd (K·Kind .equal) (K·Kind .acts (now (kind .entry))) (now (subject .entry)) element begin end r ⌝ }
 {
     match element {
         Element::Compared(_) => None,
@@ -129,7 +128,7 @@ pub fn enter<K: Kind>(
     begin: usize,
 ) -> Option<usize>
     requires { ⌜ begin ≤ length (now subject) ⌝ }
-    ensures end { λ r. ⌜ Next (element-end (K·Kind .equal) (K·Kind .acts (now (kind .entry))) (now (subject .entry)) (now (other .entry)) last element begin) (length (now (subject .entry))) 0 r ⌝ }
+    ensures end { λ r. ⌜ FirstEnd (K·Kind .equal) (K·Kind .acts (now (kind .entry))) (now (subject .entry)) (now (other .entry)) last element begin r ⌝ }
     ensures after { λ r. ⌜ now (row .exit) ≡ entered (now (row .entry)) begin r ⌝ }
 {
     let end = first_end(kind, subject, element, other, last, begin);
@@ -145,7 +144,7 @@ pub fn advance<K: Kind>(
     element: Element,
 ) -> Option<usize>
     requires { ⌜ now row .begin ≤ now row .end ⌝ ∗ ⌜ now row .end ≤ length (now subject) ⌝ }
-    ensures end { λ r. ⌜ ((w : List K·Symbol) → element-end (K·Kind .equal) (K·Kind .acts (now (kind .entry))) (now (subject .entry)) w false element (now (row .entry) .begin) (now (row .entry) .end) ≡ true → Next (element-end (K·Kind .equal) (K·Kind .acts (now (kind .entry))) (now (subject .entry)) w false element (now (row .entry) .begin)) (length (now (subject .entry))) (now (row .entry) .end + 1) r) ⌝ }
+    ensures end { λ r. ⌜ NextEnd (K·Kind .equal) (K·Kind .acts (now (kind .entry))) (now (subject .entry)) element (now (row .entry) .begin) (now (row .entry) .end) r ⌝ }
     ensures after { λ r. ⌜ now (row .exit) ≡ advanced (now (row .entry)) r ⌝ }
 {
     let end = next_end(kind, subject, element, row.begin, row.end);

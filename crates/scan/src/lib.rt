@@ -21,7 +21,8 @@ mod start;
 mod step;
 mod walk;
 
-// Places the pattern of the elements in the subject, within so many trials.
+// Places the pattern that the elements stand for in the subject, within so many trials, from 1 to 1,000,000.
+// S has the first placing, F says that there is none; both tell the trials. Where there are more trials than are allowed the scan is refused: that is neither S nor F.
 pub fn scan<K: Kind>(
     kind: &K,
     subject: &[K::Symbol],
@@ -137,8 +138,8 @@ mod tests {
                     Mode::Unanchored,
                     1_000_000,
                 )?,
-            ).2,
-            [6, 9, 10, 15, 16, 19, 20, 0],
+            ),
+            (5, 7, [6, 9, 10, 15, 16, 19, 20, 0], 87),
         )?;
         check_eq(
             told(scan_log(b")", b"", &[EVEN], Mode::Unanchored, 1000)?),

@@ -1,7 +1,5 @@
 // What a scan can be made with.
 ghost use mathlib.Core.Path.{_≡_};
-ghost use Prim.Native.Nat.{ℕ};
-ghost use lib.ListN.{length};
 ghost use Rattle.scan.specs.Answers.{in-range};
 ghost use Rattle.scan.specs.Elements.{fits, all-fit};
 use crate::element::Element;

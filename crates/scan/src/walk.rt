@@ -1,14 +1,10 @@
 // The walk of a scan from one start: forward over the elements, and back where one finds no end.
 ghost use mathlib.Core.Path.{_≡_};
-ghost use mathlib.Core.List.{List, [], _∷_};
 ghost use mathlib.Core.Bool.{true};
-ghost use Prim.Native.Nat.{ℕ, _+_, _<_, _≤_};
+ghost use Prim.Native.Nat.{_<_, _≤_};
 ghost use lib.ListN.{length};
-ghost use Rattle.placings.specs.Tree.{below};
-ghost use Rattle.placings.specs.Enumeration.{may};
-ghost use Rattle.placings.specs.declared.mode.Mode.the-variants.{Unanchored};
-ghost use Rattle.scan.specs.Elements.{pattern, all-fit};
-ghost use Rattle.scan.specs.Left.{Standing, Retreats, Ends};
+ghost use Rattle.scan.specs.Elements.{all-fit};
+ghost use Rattle.scan.specs.Left.{WalksBack, WalksFrom};
 ghost use Rattle.scan.specs.Rows.{Parted};
 use crate::element::Element;
 use crate::end::advance;
@@ -45,7 +41,7 @@ fn retreat<K: Kind>(
     elements: &[Element],
 ) -> Resumed
     requires { ⌜ from < length (now elements) ⌝ ∗ ⌜ length (now elements) ≤ 8 ⌝ ∗ ⌜ Parted (length (now subject)) (now rows) from ⌝ }
-    ensures { λ r. ⌜ ((constants : List K·Symbol) (start : ℕ) → Standing (may (K·Kind .equal) (K·Kind .acts (now (kind .entry))) Unanchored (now (subject .entry)) (pattern constants (now (elements .entry)))) (length (now (subject .entry))) (length (now (elements .entry))) start (now (rows .entry)) from → Retreats (may (K·Kind .equal) (K·Kind .acts (now (kind .entry))) Unanchored (now (subject .entry)) (pattern constants (now (elements .entry)))) (length (now (subject .entry))) (length (now (elements .entry))) start (now (rows .entry)) from left (now (rows .exit)) r) ⌝ }
+    ensures { λ r. ⌜ WalksBack (K·Kind .equal) (K·Kind .acts (now (kind .entry))) (now (subject .entry)) (now (elements .entry)) (now (rows .entry)) from left (now (rows .exit)) r ⌝ }
 {
     let mut i = from;
     while i > 0 {
@@ -57,6 +53,7 @@ fn retreat<K: Kind>(
         ) {
             Move::Forward(e) => return Resumed::At(i, e),
             Move::Back => {}
+            // No row before the last one is ever done.
             Move::Done => return Resumed::Nowhere,
             Move::Spent => return Resumed::Spent,
         }
@@ -75,7 +72,7 @@ pub fn from_start<K: Kind>(
     elements: &[Element],
 ) -> Ended
     requires { ⌜ start ≤ length (now subject) ⌝ ∗ ⌜ 0 < length (now elements) ⌝ ∗ ⌜ length (now elements) ≤ 8 ⌝ ∗ ⌜ all-fit (length (now constants)) 0 (now elements) ≡ true ⌝ }
-    ensures { λ r. ⌜ Ends (length (now (elements .entry))) start (below (may (K·Kind .equal) (K·Kind .acts (now (kind .entry))) Unanchored (now (subject .entry)) (pattern (now (constants .entry)) (now (elements .entry)))) (length (now (subject .entry))) (length (now (elements .entry))) (start ∷ [])) trials (now (rows .exit)) r ⌝ }
+    ensures { λ r. ⌜ WalksFrom (K·Kind .equal) (K·Kind .acts (now (kind .entry))) (now (subject .entry)) (now (constants .entry)) (now (elements .entry)) start trials (now (rows .exit)) r ⌝ }
 {
     let mut left = trials;
     let mut i: usize = 0;

@@ -1,6 +1,5 @@
-use native.Mathlib.Omega.{arith}
-use mathlib.Core.Path.{_≡_, sym, _∙_}
-use Rattle.scan.proofs.Walks.{plain-is, closing-is, balanced-plain, balanced-closing, balanced-opening}
+use mathlib.Core.Path.{sym, _∙_}
+use Rattle.scan.proofs.Walks.{closing-is, balanced-plain, balanced-closing, balanced-opening}
 use Rattle.scan.proofs.balance.balanced.Needs as need
 
 pub returns-in-Plain : need.returns-in-Plain

@@ -1,5 +1,5 @@
 use native.Mathlib.Omega.{arith}
-use mathlib.Core.Path.{_≡_, sym, ap, _∙_}
+use mathlib.Core.Path.{sym, _∙_}
 use Rattle.scan.proofs.Sizes.{sized-fits, sized-not, sized-long, compared-sized, compared-at}
 use Rattle.scan.proofs.end.compared_end.Needs as need
 use Rattle.scan.proofs.end.compared_end.Needs.{else-size-subject·by·then-size-subject·else-equal, else-size-subject·by·else-size-subject}

@@ -1,11 +1,6 @@
 use native.Mathlib.Omega.{arith}
-use mathlib.Core.Path.{_≡_, ap, _∙_}
-use mathlib.Core.Bool.{true}
-use Prim.Native.Nat.{_<_}
 use lib.ListN.{length}
 use Rattle.std.proofs.shelf.Tests.{and-parts, leb-true}
-use Rattle.scan.specs.declared.element.Element.the-variants.{Compared}
-use Rattle.scan.specs.Elements.{fits}
 use Rattle.scan.proofs.Starting.{front-some}
 use Rattle.scan.proofs.start.front.Needs as need
 

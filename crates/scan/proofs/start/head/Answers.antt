@@ -1,6 +1,6 @@
 use Rattle.scan.specs.declared.element.Element.the-variants.{Compared}
 use Rattle.scan.specs.declared.element.Source.the-variants.{Constant}
-use Rattle.scan.proofs.Onward.{fit-at}
+use Rattle.scan.proofs.Fitting.{fit-at}
 use Rattle.scan.proofs.start.head.Needs as need
 
 pub front-requires : need.front-requires

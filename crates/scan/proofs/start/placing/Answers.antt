@@ -1,5 +1,5 @@
 use native.Mathlib.Omega.{arith}
-use mathlib.Core.Path.{_≡_, sym, _∙_}
+use mathlib.Core.Path.{_≡_}
 use lib.ListN.{length, take}
 use Rattle.std.proofs.shelf.Lists.{length-take-le, length-map}
 use Rattle.scan.specs.declared.row.Row.{Row}

@@ -91,7 +91,7 @@ pub fn find_id<'a>(
             }
         }
         Err(refusal) => {
-            let refused = refusal as u8;
+            let refused = refusal.number();
             println!(rt, "{number} refused {refused}")?;
             Ok(None)
         }

@@ -10,7 +10,7 @@ use symbols::kind::Kind;
 use symbols::role::Role;
 
 // The end of the group whose opening symbol stands before `from`: behind the symbol that closes it.
-pub fn closed<K: Kind>(kind: &K, subject: &[K::Symbol], from: usize) -> Option<usize>
+pub(crate) fn closed<K: Kind>(kind: &K, subject: &[K::Symbol], from: usize) -> Option<usize>
     requires { ⌜ 0 < from ⌝ ∗ ⌜ from ≤ length (now subject) ⌝ }
     ensures { λ r. ⌜ Next (λ k. leb from k && closes-from (K·Kind .acts (now (kind .entry))) (part (now (subject .entry)) from k) 1) (length (now (subject .entry))) from r ⌝ }
 {
@@ -33,7 +33,7 @@ pub fn closed<K: Kind>(kind: &K, subject: &[K::Symbol], from: usize) -> Option<u
 }
 
 // The first end of a balanced part that begins at `begin`: behind one plain symbol or one whole group.
-pub fn balanced<K: Kind>(kind: &K, subject: &[K::Symbol], begin: usize) -> Option<usize>
+pub(crate) fn balanced<K: Kind>(kind: &K, subject: &[K::Symbol], begin: usize) -> Option<usize>
     requires { ⌜ begin ≤ length (now subject) ⌝ }
     ensures { λ r. ⌜ Next (balanced-end (K·Kind .acts (now (kind .entry))) (now (subject .entry)) begin) (length (now (subject .entry))) (begin + 1) r ⌝ }
 {

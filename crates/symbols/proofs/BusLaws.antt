@@ -37,9 +37,10 @@ pub phases-same : (p q : Phase) → same-phase p q ≡ true → p ≡ q
 phases-same p q h = let e = ap phase-meant (eqb-true _ _ h) in let a = phase-back p in let b = phase-back q in cc
 
 pub bus-decides : (x y : BusEvent) → Decides (bus-equal x y) (x ≡ y)
-bus-decides x y =
-    (λ e. let a = and-parts _ _ e in let b = and-parts _ _ (a .1) in same-parts x y (eqb-true _ _ (a .0)) (phases-same _ _ (b .0)) (eqb-true _ _ (b .1)),
-     λ e. and-from _ _ (eq-eqb _ _ (ap (λ (z : BusEvent). z .identifier) e)) (and-from _ _ (eq-eqb _ _ (ap (λ (z : BusEvent). phase-char (z .phase)) e)) (eq-eqb _ _ (ap (λ (z : BusEvent). z .value) e))))
+bus-decides x y = (
+  λ e. let a = and-parts _ _ e in let b = and-parts _ _ (a .1) in same-parts x y (eqb-true _ _ (a .0)) (phases-same _ _ (b .0)) (eqb-true _ _ (b .1)),
+  λ e. and-from _ _ (eq-eqb _ _ (ap (λ (z : BusEvent). z .identifier) e)) (and-from _ _ (eq-eqb _ _ (ap (λ (z : BusEvent). phase-char (z .phase)) e)) (eq-eqb _ _ (ap (λ (z : BusEvent). z .value) e))),
+)
 
 -- parts that some event has make that event
 pub event-is : (i : ℕ) (p : Phase) (v : ℕ) (b : Bool) (e : in-range i v ≡ b) (x : BusEvent) → i ≡ x .identifier → p ≡ x .phase → v ≡ x .value → event i p v b e ≡ Some x
@@ -62,7 +63,7 @@ unfolding hex-digits
 bus-back x =
     let small = small-numbers x in
     event-made (hex-number (hex-digits 3 (x .identifier))) (phase-meant (phase-char (x .phase))) (hex-number (hex-digits 4 (x .value))) x
-        (number-of-digits 3 (x .identifier) (omega arith)) (phase-back (x .phase)) (number-of-digits 4 (x .value) (omega arith))
+    (number-of-digits 3 (x .identifier) (omega arith)) (phase-back (x .phase)) (number-of-digits 4 (x .value) (omega arith))
 
 -- an event has the parts that it was made of
 event-parts : (i : ℕ) (p : Phase) (v : ℕ) (b : Bool) (e : in-range i v ≡ b) (x : BusEvent) → event i p v b e ≡ Some x → (i ≡ x .identifier) × (p ≡ x .phase) × (v ≡ x .value)

@@ -5,3 +5,4 @@ pub mod Hex
 pub mod Kinds
 pub mod Log
 pub mod LogCodes
+pub mod Texts

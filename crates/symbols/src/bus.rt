@@ -47,7 +47,11 @@ fn event_meant(text: &[u8]) -> Option<BusEvent>
     if identifier >= 2048 {
         return None;
     }
-    Some(BusEvent { identifier, phase, value })
+    Some(BusEvent {
+        identifier,
+        phase,
+        value,
+    })
 }
 
 #[derive(Clone, Copy, Debug)]
@@ -82,16 +86,18 @@ pub impl Kind for BusEvents as BusEventsKind {
         }
         let identifier = symbol.identifier;
         let value = symbol.value;
-        area[0..8].copy_from_slice(&[
-            hex_digit(identifier / 256),
-            hex_digit(identifier / 16 % 16),
-            hex_digit(identifier % 16),
-            phase_char(symbol.phase),
-            hex_digit(value / 4096),
-            hex_digit(value / 256 % 16),
-            hex_digit(value / 16 % 16),
-            hex_digit(value % 16),
-        ]);
+        area[0..8].copy_from_slice(
+            &[
+                hex_digit(identifier / 256),
+                hex_digit(identifier / 16 % 16),
+                hex_digit(identifier % 16),
+                phase_char(symbol.phase),
+                hex_digit(value / 4096),
+                hex_digit(value / 256 % 16),
+                hex_digit(value / 16 % 16),
+                hex_digit(value % 16),
+            ],
+        );
         Ok(())
     }
 

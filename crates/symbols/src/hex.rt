@@ -35,5 +35,9 @@ pub(crate) fn hex_digit(v: u16) -> u8
     requires { ⌜ v < 16 ⌝ }
     ensures { λ r. ⌜ r ≡ hex-digit v ⌝ }
 {
-    if v < 10 { v as u8 + b'0' } else { v as u8 - 10 + b'A' }
+    if v < 10 {
+        v as u8 + b'0'
+    } else {
+        v as u8 - 10 + b'A'
+    }
 }

@@ -8,8 +8,8 @@ ghost use Rattle.std.specs.Orderings.{Decides};
 ghost use Rattle.std.specs.declared.option.Option.{Option};
 ghost use Rattle.std.specs.declared.option.Option.the-variants.{Some};
 ghost use Rattle.symbols.specs.declared.role.Role.{Role};
-ghost use Rattle.symbols.specs.Answers.{answered, unless, over};
-ghost use Rattle.symbols.specs.Kinds.{read-as, short-of};
+ghost use Rattle.symbols.specs.Answers.{answered};
+ghost use Rattle.symbols.specs.Kinds.{read-as, short-for, fronted};
 use crate::fault::AreaRefusal;
 use crate::fault::SymbolFault;
 use crate::role::Role;
@@ -55,8 +55,8 @@ pub trait Kind {
 
     // The characters of a symbol, written to the front of an area.
     fn write(&self, symbol: Self::Symbol, area: &mut [u8]) -> Result<(), AreaRefusal>
-        ensures answer { λ r. ⌜ r ≡ answered (short-of (length (now (area .entry))) wide) tt ⌝ }
-        ensures area { λ _. ⌜ now (area .exit) ≡ unless (short-of (length (now (area .entry))) wide) (now (area .entry)) (over (chars symbol) (now (area .entry))) ⌝ };
+        ensures answer { λ r. ⌜ r ≡ answered (short-for (chars symbol) (now (area .entry))) tt ⌝ }
+        ensures area { λ _. ⌜ now (area .exit) ≡ fronted (chars symbol) (now (area .entry)) ⌝ };
 
     // Whether two symbols are equal.
     fn same(&self, a: Self::Symbol, b: Self::Symbol) -> bool

@@ -7,3 +7,4 @@ pub mod kind;
 pub mod log;
 pub mod log_char;
 pub mod role;
+pub mod text;

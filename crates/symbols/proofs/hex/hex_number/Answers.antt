@@ -15,9 +15,10 @@ mul-n c = let f = fits-four (c .loop-i .n) (c .loop-i .i) (omega arith) (c .loop
 
 pub loop-i-again : need.loop-i-again
 loop-i-again c =
-    let is = sym (c .in-Some .ensures tt) in
-    (c .loop-i .inv .0 ∙ more-goes (c .args .digits .now) (c .loop-i .n) (c .loop-i .i) (c .in-Some .v) (omega arith) is,
-     grows (c .loop-i .n) (c .in-Some .v) (c .loop-i .i) (c .loop-i .inv .1) (value-small (getD (c .args .digits .now) (c .loop-i .i) 0) (c .in-Some .v) is))
+    let is = sym (c .in-Some .ensures tt) in (
+      c .loop-i .inv .0 ∙ more-goes (c .args .digits .now) (c .loop-i .n) (c .loop-i .i) (c .in-Some .v) (omega arith) is,
+      grows (c .loop-i .n) (c .in-Some .v) (c .loop-i .i) (c .loop-i .inv .1) (value-small (getD (c .args .digits .now) (c .loop-i .i) 0) (c .in-Some .v) is),
+    )
 
 pub returns : need.returns
 returns c = sym (c .loop-i .inv .0 ∙ more-ends (c .args .digits .now) (c .loop-i .n) (c .loop-i .i) (omega arith))

@@ -1,0 +1,1 @@
+// What a token of a line is to its statement.

@@ -1,0 +1,4 @@
+// Sheets: the faults of a sheet's text and the one that counts, names, and the checks of one line.
+pub mod fault;
+pub mod item;
+pub mod part;

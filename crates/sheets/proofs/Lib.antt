@@ -1,2 +1,4 @@
+pub mod Extras
 pub mod Firsts
+pub mod Literals
 pub mod Searches

@@ -1,3 +1,5 @@
 pub mod Causes
 pub mod Faults
+pub mod Items
 pub mod Parts
+pub mod Tallies

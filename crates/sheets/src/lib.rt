@@ -2,3 +2,4 @@
 pub mod fault;
 pub mod item;
 pub mod part;
+pub mod tally;

@@ -4,13 +4,14 @@ use mathlib.Core.Bool.{Bool, true, false, cond, _&&_}
 use mathlib.Core.List.{List, [], _∷_, _++_, map}
 use Prim.Native.Nat.{ℕ, _+_, _≤_}
 use lib.Dec.{ltb, leb}
-use lib.ListN.{length, take}
+use lib.ListN.{length, take, drop}
 use Rattle.std.specs.declared.option.Option.{Option}
 use Rattle.std.specs.declared.option.Option.the-variants.{Some, None}
 use Rattle.std.specs.declared.result.Result.{Result}
 use Rattle.std.specs.declared.result.Result.the-variants.{Ok, Err}
 use Rattle.lines.specs.declared.token.Token.{Token}
 use Rattle.symbols.specs.declared.fault.TextFault.{TextFault}
+use Rattle.symbols.specs.Texts.{text-read, counted}
 use Rattle.sheets.specs.declared.fault.Cause.{Cause}
 use Rattle.sheets.specs.declared.fault.Fault.{Fault}
 use Rattle.sheets.specs.declared.fault.SymbolAt.{SymbolAt}
@@ -18,9 +19,13 @@ use Rattle.sheets.specs.declared.item.Opened.{Opened}
 use Rattle.sheets.specs.declared.item.Sort.{Sort}
 use Rattle.sheets.specs.declared.part.Part.{Part}
 use Rattle.sheets.specs.declared.tally.Tally.{Tally}
-use Rattle.sheets.specs.Faults.{fault, first}
+use Rattle.sheets.specs.Faults.{fault, before, first}
 use Rattle.sheets.specs.Items.{sort-of, opened-by, word, spelling, brings-name, closed, contents}
 use Rattle.sheets.specs.Parts.{part-of, position, with-word}
+
+-- how many symbols of a kind characters mean, or their fault
+abbrev pub counts : {X : Type 0} → (List ℕ → Option X) → ℕ → List ℕ → Result ℕ TextFault
+counts meant wide c = counted (text-read meant wide c)
 
 -- what is counted: a statement's elements and right side operands, the sheet's constant symbols and its names
 pub record Count : Type 0 where
@@ -58,14 +63,14 @@ abbrev pub long-name : List ℕ → Token → List Fault
 long-name s t = when (sort-limited (sort-of (t .role)) && ltb 16 (word s t .size)) (fault (word s t .start + 1) Cause.LongName)
 
 -- how many there are of what a token begins
-abbrev pub opened-before : Opened → Count → ℕ
-opened-before Opened.Nothing n = 0
-opened-before Opened.Element n = n .elements
-opened-before Opened.Operand n = n .operands
+abbrev pub opened-before : Opened → ℕ → ℕ → ℕ
+opened-before Opened.Nothing elements operands = 0
+opened-before Opened.Element elements operands = elements
+opened-before Opened.Operand elements operands = operands
 
 -- the ninth element or right side operand, at its first character
-abbrev pub ninth : Count → Token → List Fault
-ninth n t = when (leb 8 (opened-before (opened-by (t .role)) n)) (fault (t .start + 1) Cause.TooMany)
+abbrev pub ninth : ℕ → ℕ → Token → List Fault
+ninth elements operands t = when (leb 8 (opened-before (opened-by (t .role)) elements operands)) (fault (t .start + 1) Cause.TooMany)
 
 abbrev pub absent : Option ℕ → Bool
 absent None = true
@@ -116,6 +121,26 @@ abbrev pub literal-answer : Result ℕ TextFault → ℕ → Token → Result �
 literal-answer (Ok k) before t = cond (ltb 4096 (before + k)) (Err (fault (t .start + 1) Cause.TooMany)) (Ok k)
 literal-answer (Err f) before t = Err (fault ((t .start + 2) + f .at) (Cause.Symbol (f .fault)))
 
+-- the symbols that a token adds, or of two faults the one that counts
+abbrev pub joined : Option Fault → Result ℕ Fault → Result ℕ Fault
+joined None r = r
+joined (Some f) (Ok k) = Err f
+joined (Some f) (Err g) = cond (before g f) (Err g) (Err f)
+
+-- what taking tokens answers: the fault that counts; or a tally that means what is counted with them, within all limits
+abbrev pub Took : Option Fault → Count → List ℕ → List Part → Result Tally Fault → Type 0
+Took fault count text names (Ok t) = (fault ≡ None) × (told text names t ≡ count) × Within t
+Took fault count text names (Err f) = fault ≡ Some f
+
+-- the line stands in the text from a place on
+abbrev pub Lies : List ℕ → ℕ → List ℕ → Type 0
+Lies text k s = s ≡ take (length s) (drop k text)
+
+-- the fault of the first of two things that has one
+abbrev pub or-else : Option Fault → Option Fault → Option Fault
+or-else None b = b
+or-else (Some f) b = Some f
+
 module _ (reads : List ℕ → Result ℕ TextFault) where
   -- how many symbols a token adds to the constants, or the symbol fault of its literal
   abbrev pub literal : List ℕ → Token → Result ℕ TextFault
@@ -124,7 +149,7 @@ module _ (reads : List ℕ → Result ℕ TextFault) where
   -- the faults of a token where n is counted before it
   unfoldable pub token-faults : List ℕ → Count → Token → List Fault
   token-faults s n t =
-      (long-name s t ++ ninth n t) ++ (extra-name s n t ++ literal-faults (literal s t) (n .symbols) t)
+      ((long-name s t ++ ninth (n .elements) (n .operands) t) ++ extra-name s n t) ++ literal-faults (literal s t) (n .symbols) t
 
   -- what is counted with a token
   unfoldable pub with-token : List ℕ → Count → Token → Count
@@ -139,6 +164,11 @@ module _ (reads : List ℕ → Result ℕ TextFault) where
   unfoldable pub faults-from : List ℕ → Count → List Token → List Fault
   faults-from s n [] = []
   faults-from s n (t ∷ ts) = token-faults s n t ++ faults-from s (with-token s n t) ts
+
+  -- the fault of the first token that has one
+  unfoldable pub first-from : List ℕ → Count → List Token → Option Fault
+  first-from s n [] = None
+  first-from s n (t ∷ ts) = or-else (first (token-faults s n t)) (first-from s (with-token s n t) ts)
 
   -- what is counted with all tokens
   unfoldable pub count-from : List ℕ → Count → List Token → Count

@@ -2,7 +2,7 @@
 ghost use mathlib.Core.List.{map};
 ghost use mathlib.Core.Path.{_≡_};
 ghost use mathlib.Core.Bool.{cond};
-ghost use Prim.Native.Nat.{_<_};
+ghost use Prim.Native.Nat.{_<_, _≤_};
 ghost use lib.Dec.{ltb};
 ghost use lib.ListN.{length, take};
 ghost use Rattle.std.specs.shelf.Text.{sameBytes};
@@ -59,7 +59,8 @@ pub fn find_word(text: &[u8], parts: &[Part], word: &[u8]) -> Option<usize>
 // Adds the word at `part` to the first `count` parts, unless one of them spells it; the new count.
 pub(crate) fn note_word(text: &[u8], parts: &mut [Part], count: usize, part: Part) -> usize
     requires { ⌜ count < length (now parts) ⌝ }
-    ensures { λ r. ⌜ map (part-of (now (text .entry))) (take r (now (parts .exit))) ≡ with-word (part-of (now (text .entry)) part) (map (part-of (now (text .entry))) (take count (now (parts .entry)))) ⌝ }
+    ensures words { λ r. ⌜ map (part-of (now (text .entry))) (take r (now (parts .exit))) ≡ with-word (part-of (now (text .entry)) part) (map (part-of (now (text .entry))) (take count (now (parts .entry)))) ⌝ }
+    ensures room { λ r. ⌜ r ≤ length (now (parts .exit)) ⌝ }
 {
     match find_word(text, &parts[0..count], part_of(text, part)) {
         Some(_) => count,

@@ -1,3 +1,4 @@
+pub mod Ascents
 pub mod Extras
 pub mod Firsts
 pub mod Literals

@@ -17,6 +17,7 @@ use Rattle.symbols.specs.declared.fault.SymbolFault.the-variants.{NotWhole}
 use Rattle.symbols.specs.Texts.{before, symbols-from, text-read, counted}
 use Rattle.sheets.specs.declared.part.Part.{Part}
 use Rattle.sheets.specs.Parts.{part-of}
+use Rattle.sheets.specs.Tallies.{counts}
 
 no-ok : {X : Type 0} (x : X) (f : TextFault) → _≡_ {A = Result X TextFault} (Ok x) (Err f) → ⊥
 no-ok x f e = let z : _≡_ {A = ℕ} 0 1 = cc in omega arith
@@ -63,3 +64,6 @@ module _ {X : Type 0} (meant : List ℕ → Option X) (wide : ℕ) where
       let c = part-of s p in
       let l : f .at ≤ length c = counted-at c (text-read meant wide c) f (read-at c) (sym e) in
       le-trans l (subst (λ (n : ℕ). n ≤ p .size) (sym (length-take (p .size) (drop (p .start) s))) (min-le-left (p .size) (length (drop (p .start) s))))
+
+  pub counts-bounded : (c : List ℕ) (f : TextFault) → counts meant wide c ≡ Err f → f .at ≤ length c
+  counts-bounded c f e = counted-at c (text-read meant wide c) f (read-at c) e

@@ -69,16 +69,16 @@ word s t = cond (indirect s t) (part (t .start + 1) (t .size - 1)) (part (t .sta
 abbrev pub spelling : List ℕ → Token → List ℕ
 spelling s t = part-of s (word s t)
 
-abbrev sort-brings : Sort → Bool → Bool
+abbrev pub sort-brings : Sort → Bool → Bool
 sort-brings Sort.Other dollar = false
 sort-brings Sort.Label dollar = false
 sort-brings Sort.Name dollar = true
 sort-brings Sort.Target dollar = dollar
 sort-brings Sort.Literal dollar = false
 
--- the token has a name: the label of a go-to is one only after `$`
+-- the token has a name, of which there is at least a character: the label of a go-to is one only after `$`
 abbrev pub brings-name : List ℕ → Token → Bool
-brings-name s t = sort-brings (sort-of (t .role)) (indirect s t)
+brings-name s t = sort-brings (sort-of (t .role)) (indirect s t) && ltb 0 (word s t .size)
 
 -- a literal that has both its quotes
 abbrev pub closed : List ℕ → Token → Bool

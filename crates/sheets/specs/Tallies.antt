@@ -92,7 +92,7 @@ operands-opened Opened.Element = 0
 operands-opened Opened.Operand = 1
 
 -- a token is a literal that has both its quotes
-abbrev sort-literal : Sort → Bool
+abbrev pub sort-literal : Sort → Bool
 sort-literal Sort.Other = false
 sort-literal Sort.Label = false
 sort-literal Sort.Name = false

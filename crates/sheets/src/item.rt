@@ -2,7 +2,7 @@
 ghost use mathlib.Core.Path.{_≡_};
 ghost use Prim.Native.Nat.{_<_, _^_};
 ghost use lib.ListN.{length};
-ghost use Rattle.sheets.specs.Items.{sort-of, opened-by, Inside, indirect, word, brings-name, closed, contents};
+ghost use Rattle.sheets.specs.Items.{sort-of, opened-by, Inside, indirect, word, sort-brings, brings-name, closed, contents};
 use crate::part::Part;
 use lines::role::Role;
 use lines::token::Token;
@@ -68,16 +68,25 @@ pub(crate) fn word(line: &[u8], token: Token) -> Part
     }
 }
 
-// Whether the token has a name: the label of a go-to is one only after `$`.
-pub(crate) fn brings_name(line: &[u8], token: Token) -> bool
+// Whether a name may stand where the token does: the label of a go-to is one only after `$`.
+fn may_name(line: &[u8], token: Token) -> bool
     requires { ⌜ Inside (now line) token ⌝ }
-    ensures { λ r. ⌜ r ≡ brings-name (now (line .entry)) token ⌝ }
+    ensures { λ r. ⌜ r ≡ sort-brings (sort-of (token .role)) (indirect (now (line .entry)) token) ⌝ }
 {
     match sort_of(token.role) {
         Sort::Name => true,
         Sort::Target => is_indirect(line, token),
         _ => false,
     }
+}
+
+// Whether the token has a name.
+pub(crate) fn brings_name(line: &[u8], token: Token) -> bool
+    requires inside { ⌜ Inside (now line) token ⌝ }
+    requires small { ⌜ length (now line) < 2 ^ 32 ⌝ }
+    ensures { λ r. ⌜ r ≡ brings-name (now (line .entry)) token ⌝ }
+{
+    may_name(line, token) && word(line, token).size > 0
 }
 
 // Whether a literal has both its quotes.

@@ -10,7 +10,7 @@ ghost use Rattle.lines.specs.Tokens.{tokens};
 ghost use Rattle.symbols.specs.Answers.{answered};
 ghost use Rattle.sheets.specs.Items.{Inside, brings-name, spelling};
 ghost use Rattle.sheets.specs.Parts.{part-of, with-word};
-ghost use Rattle.sheets.specs.Tallies.{counts, told, Within, long-name, ninth, extra-name, literal, placed, literal-answer, joined, token-faults, symbols-added, elements-opened, operands-opened, with-token, first-from, count-from, Lies, Took};
+ghost use Rattle.sheets.specs.Tallies.{counts, told, Within, long-name, ninth, extra-name, literal, placed, literal-answer, joined, token-faults, symbols-added, elements-opened, operands-opened, with-token, faults-from, count-from, Lies, Took};
 use crate::fault::is_before;
 use crate::fault::least;
 use crate::fault::Cause;
@@ -212,14 +212,14 @@ fn take_token<K: Kind>(kind: &K, text: &[u8], from: usize, line: &[u8], names: &
     })
 }
 
-// The tokens of a line, left to right: what is counted with them, or the fault of the first that has one.
+// The tokens of a line, left to right: what is counted with them, or their fault that counts.
 pub(crate) fn check_tokens<K: Kind>(kind: &K, text: &[u8], from: usize, line: &[u8], names: &mut [Part], before: Tally) -> Result<Tally, Fault>
     requires small { ⌜ length (now line) < 2 ^ 32 ⌝ }
     requires place { ⌜ from < 2 ^ 32 ⌝ }
     requires lies { ⌜ Lies (now text) from (now line) ⌝ }
     requires room { ⌜ 64 < length (now names) ⌝ }
     requires within { ⌜ Within before ⌝ }
-    ensures { λ r. ⌜ Took (first-from (counts (K·Kind .meant) (K·Kind .wide)) (now (line .entry)) (told (now (text .entry)) (now (names .entry)) before) (tokens (now (line .entry)))) (count-from (counts (K·Kind .meant) (K·Kind .wide)) (now (line .entry)) (told (now (text .entry)) (now (names .entry)) before) (tokens (now (line .entry)))) (now (text .entry)) (now (names .exit)) r ⌝ }
+    ensures { λ r. ⌜ Took (first (faults-from (counts (K·Kind .meant) (K·Kind .wide)) (now (line .entry)) (told (now (text .entry)) (now (names .entry)) before) (tokens (now (line .entry))))) (count-from (counts (K·Kind .meant) (K·Kind .wide)) (now (line .entry)) (told (now (text .entry)) (now (names .entry)) before) (tokens (now (line .entry)))) (now (text .entry)) (now (names .exit)) r ⌝ }
 {
     let mut tally = before;
     let mut at = 0;

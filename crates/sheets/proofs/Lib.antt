@@ -1,6 +1,8 @@
 pub mod Ascents
+pub mod Codes
 pub mod Extras
 pub mod Firsts
+pub mod LineLaws
 pub mod Literals
 pub mod Searches
 pub mod TokenLaws

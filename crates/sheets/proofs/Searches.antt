@@ -46,10 +46,13 @@ module _ (text : List ℕ) (ps : List Part) (n : ℕ) (p : Part) (h : n < length
   one-more : take (n + 1) (set ps n p) ≡ take n ps ++ (p ∷ [])
   one-more = ap (λ (k : ℕ). take k (set ps n p)) (add-one n) ∙ take-suc-set ps n p h
 
+  pub pushed : map (part-of text) (take (n + 1) (set ps n p)) ≡ map (part-of text) (take n ps) ++ (part-of text p ∷ [])
+  pushed = ap (map (part-of text)) one-more ∙ map-push (part-of text) (take n ps) p
+
   pub noted : (x : List ℕ) (m : ℕ) → x ≡ part-of text p → m ≡ n → None ≡ position x (map (part-of text) (take m ps))
       → map (part-of text) (take (n + 1) (set ps n p)) ≡ with-word (part-of text p) (map (part-of text) (take n ps))
   noted x m e f none =
-      ap (map (part-of text)) one-more ∙ map-push (part-of text) (take n ps) p
+      pushed
       ∙ ap (λ (o : Option ℕ). or-added o (part-of text p) (map (part-of text) (take n ps)))
           (none ∙ ap (λ (k : ℕ). position x (map (part-of text) (take k ps))) f ∙ ap (λ (y : List ℕ). position y (map (part-of text) (take n ps))) e)
 

@@ -100,7 +100,7 @@ word-within s t h = go (indirect s t)
     go false = h .within
 
 -- where no fault counts there is none
-least-none-left : (a b : Option Fault) → least a b ≡ None → a ≡ None
+pub least-none-left : (a b : Option Fault) → least a b ≡ None → a ≡ None
 least-none-left None b e = refl
 least-none-left (Some f) None e = e
 least-none-left (Some f) (Some g) e = go (before g f) e
@@ -109,7 +109,7 @@ least-none-left (Some f) (Some g) e = go (before g f) e
     go true p = absurd (let z : _≡_ {A = ℕ} 0 1 = cc in omega arith)
     go false p = p
 
-least-none-right : (a b : Option Fault) → least a b ≡ None → b ≡ None
+pub least-none-right : (a b : Option Fault) → least a b ≡ None → b ≡ None
 least-none-right a None e = refl
 least-none-right None (Some g) e = e
 least-none-right (Some f) (Some g) e = go (before g f) e
@@ -118,7 +118,7 @@ least-none-right (Some f) (Some g) e = go (before g f) e
     go true p = p
     go false p = absurd (let z : _≡_ {A = ℕ} 0 1 = cc in omega arith)
 
-when-none : (b : Bool) (f : Fault) → first (when b f) ≡ None → b ≡ false
+pub when-none : (b : Bool) (f : Fault) → first (when b f) ≡ None → b ≡ false
 when-none true f e = absurd (let z : _≡_ {A = ℕ} 0 1 = cc in omega arith)
 when-none false f e = refl
 

@@ -1,5 +1,6 @@
 pub mod Causes
 pub mod Faults
 pub mod Items
+pub mod LineFaults
 pub mod Parts
 pub mod Tallies

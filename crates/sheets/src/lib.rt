@@ -1,4 +1,5 @@
 // Sheets: the faults of a sheet's text and the one that counts, names, and the checks of one line.
+mod check;
 pub mod fault;
 pub mod item;
 pub mod part;

@@ -30,7 +30,7 @@ pub fn part_of(text: &[u8], part: Part) -> &[u8]
     &text[start..end]
 }
 
-fn same_text(a: &[u8], b: &[u8]) -> bool
+pub(crate) fn same_text(a: &[u8], b: &[u8]) -> bool
     ensures { λ r. ⌜ r ≡ sameBytes (now (a .entry)) (now (b .entry)) ⌝ }
 {
     a == b

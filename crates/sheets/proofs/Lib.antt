@@ -1,8 +1,10 @@
 pub mod Ascents
 pub mod Codes
+pub mod Cuts
 pub mod Extras
 pub mod Firsts
 pub mod LineLaws
+pub mod LineLoops
 pub mod Literals
 pub mod Searches
 pub mod TokenLaws

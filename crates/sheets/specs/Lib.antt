@@ -3,4 +3,5 @@ pub mod Faults
 pub mod Items
 pub mod LineFaults
 pub mod Parts
+pub mod Sheets
 pub mod Tallies

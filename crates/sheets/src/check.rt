@@ -190,7 +190,7 @@ fn settle(fault: Option<Fault>, carried: Carried) -> Result<Carried, Fault>
 }
 
 // One line after those before it: what they then have brought, or the line's fault that counts.
-fn check_line<K: Kind>(kind: &K, text: &[u8], from: usize, line: &[u8], names: &mut [Part], labels: &mut [Part], before: Carried) -> Result<Carried, Fault>
+pub(crate) fn check_line<K: Kind>(kind: &K, text: &[u8], from: usize, line: &[u8], names: &mut [Part], labels: &mut [Part], before: Carried) -> Result<Carried, Fault>
     requires small { ⌜ length (now line) < 2 ^ 32 ⌝ }
     requires place { ⌜ from < 2 ^ 32 ⌝ }
     requires lies { ⌜ Lies (now text) from (now line) ⌝ }

@@ -3,4 +3,5 @@ mod check;
 pub mod fault;
 pub mod item;
 pub mod part;
+mod reader;
 pub mod tally;

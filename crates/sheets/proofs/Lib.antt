@@ -3,6 +3,7 @@ pub mod Codes
 pub mod Cuts
 pub mod Extras
 pub mod Firsts
+pub mod LabelLoops
 pub mod LineLaws
 pub mod LineLoops
 pub mod Literals

@@ -48,7 +48,7 @@ pub fn opened_by(role: Role) -> Opened
 }
 
 // Whether the token begins with `$`.
-fn is_indirect(line: &[u8], token: Token) -> bool
+pub(crate) fn is_indirect(line: &[u8], token: Token) -> bool
     requires { ⌜ Inside (now line) token ⌝ }
     ensures { λ r. ⌜ r ≡ indirect (now (line .entry)) token ⌝ }
 {

@@ -2,6 +2,7 @@
 mod check;
 pub mod fault;
 pub mod item;
+mod labels;
 pub mod part;
 mod reader;
 pub mod tally;

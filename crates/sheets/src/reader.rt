@@ -16,7 +16,7 @@ use crate::part::Part;
 use symbols::kind::Kind;
 
 // The end of the line that begins at `from`.
-fn line_end(text: &[u8], from: usize) -> usize
+pub(crate) fn line_end(text: &[u8], from: usize) -> usize
     requires { ⌜ from ≤ length (now text) ⌝ }
     ensures within { λ r. ⌜ r ≤ length (now (text .entry)) ⌝ }
     ensures above { λ r. ⌜ from ≤ r ⌝ }

@@ -7,6 +7,7 @@ pub mod LabelLoops
 pub mod LineLaws
 pub mod LineLoops
 pub mod Literals
+pub mod Refusals
 pub mod Searches
 pub mod TokenLaws
 pub mod TokenLoops

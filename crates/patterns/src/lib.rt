@@ -1,0 +1,2 @@
+// The pattern of a statement, as a scan takes it.
+pub mod reference;

@@ -1,2 +1,3 @@
 // The pattern of a statement, as a scan takes it.
 pub mod reference;
+pub mod variable;

@@ -1,0 +1,5 @@
+pub mod Limits
+pub mod Passes
+pub mod Sources
+pub mod Written
+pub mod Writes

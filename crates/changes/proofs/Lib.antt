@@ -1,3 +1,4 @@
+pub mod Fetches
 pub mod Limits
 pub mod Passes
 pub mod Sources

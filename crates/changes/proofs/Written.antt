@@ -124,3 +124,7 @@ module _ {X : Type 0} (success : Success X) (names : Names X) where
       go : (o : Option ℕ) → Referred (length (names .strings)) o → under (renewed o (success .contents) all-named) k ≡ put-or (value success (cond (is-reference o k) Contents (last-part k (success .start) (success .items) (success .ends)))) (under names k)
       go None inn = rest
       go (Some t) inn = under-with all-named t k (success .contents) (rw (named-length (success .subject) (success .start) (success .items) (success .ends) names) inn) ∙ new (eqb t k)
+
+  -- the string of a name by the source that was found for it
+  pub source-under : Sound names success → (k : ℕ) (s : Source) → s ≡ source success k → under (written success names) k ≡ put-or (value success s) (under names k)
+  source-under sound k s e = one-source sound k ∙ ap (λ q. put-or (value success q) (under names k)) (sym e)

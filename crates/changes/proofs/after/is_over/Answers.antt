@@ -1,0 +1,64 @@
+use mathlib.Core.Path.{_≡_, refl, sym, ap, _∙_}
+use Prim.Native.Nat.{ℕ, _+_, _<_, _≤_}
+use borrow.Author.Needs.{needs}
+use native.Mathlib.Omega.{arith}
+use lib.ListN.{length, drop}
+use Rattle.stores.specs.declared.limits.Limits.{Limits}
+use Rattle.changes.specs.Success.{told}
+use Rattle.changes.specs.Written.{written}
+use Rattle.changes.proofs.Limits.{size-more, over-one, over-all, over-more, over-none}
+use Rattle.changes.proofs.Written.{written-length, written-limits}
+use Rattle.changes.proofs.after.is_over.Needs as need
+
+pub loop-i-holds : need.loop-i-holds
+loop-i-holds g c = (omega arith, omega arith, refl)
+
+pub length-after-n-requires : need.length-after-n-requires
+length-after-n-requires g c κs =
+    let many = ap (λ (l : Limits). l .names) (c .tell-limits .ensures) in
+    record { sound = c .pre; name = record { low = omega arith; high = omega (arith, c .loop-i-test .taken) } }
+
+pub returns-then-n-limits : need.returns-then-n-limits
+returns-then-n-limits g c =
+    let names = g .S·Store .held (c .args .store .now) in
+    let after = written (told (c .args .success)) names in
+    let lt : c .loop-i .i < length (after .strings) = omega (arith, written-length (told (c .args .success)) names, ap (λ (l : Limits). l .names) (c .tell-limits .ensures), c .loop-i-test .taken) in
+    over-one after (c .loop-i .i) (c .length-after-n .result) lt (c .length-after-n .ensures) (c .loop-i .inv .2) (omega (arith, c .if-n-limits .taken, ap (λ (l : Limits). l .longest) (c .tell-limits .ensures), ap (λ m. m .longest) (written-limits (told (c .args .success)) names)))
+
+pub returns-then-n-limits-2 : need.returns-then-n-limits-2
+returns-then-n-limits-2 g c =
+    let names = g .S·Store .held (c .args .store .now) in
+    let after = written (told (c .args .success)) names in
+    let lt : c .loop-i .i < length (after .strings) = omega (arith, written-length (told (c .args .success)) names, ap (λ (l : Limits). l .names) (c .tell-limits .ensures), c .loop-i-test .taken) in
+    over-all after (c .loop-i .i) (c .length-after-n .result) lt (c .length-after-n .ensures) (c .loop-i .sum) (c .loop-i .inv .1) (omega (arith, c .if-n-limits-2 .taken, c .loop-i .inv .0, ap (λ (l : Limits). l .most) (c .tell-limits .ensures), ap (λ m. m .most) (written-limits (told (c .args .success)) names)))
+
+pub add-sum : need.add-sum
+add-sum g c =
+    let names = g .S·Store .held (c .args .store .now) in
+    let small = g .S·Store .bounds (c .args .store .now) .small in
+    let most = ap (λ (l : Limits). l .most) (c .tell-limits .ensures) in
+    let kept = ap (λ m. m .most) (written-limits (told (c .args .success)) names) in
+    let all : c .loop-i .sum + c .length-after-n .result ≤ 65536 = omega (arith, c .if-n-limits-2 .left, c .loop-i .inv .0) in
+    search needs
+
+pub loop-i-again : need.loop-i-again
+loop-i-again g c =
+    let names = g .S·Store .held (c .args .store .now) in
+    let after = written (told (c .args .success)) names in
+    let lt : c .loop-i .i < length (after .strings) = omega (arith, written-length (told (c .args .success)) names, ap (λ (l : Limits). l .names) (c .tell-limits .ensures), c .loop-i-test .taken) in
+    let longest : c .length-after-n .result ≤ after .longest = omega (arith, c .if-n-limits .left, ap (λ (l : Limits). l .longest) (c .tell-limits .ensures), ap (λ m. m .longest) (written-limits (told (c .args .success)) names)) in (
+      omega (arith, c .if-n-limits-2 .left, c .loop-i .inv .0, ap (λ (l : Limits). l .most) (c .tell-limits .ensures), ap (λ m. m .most) (written-limits (told (c .args .success)) names)),
+      omega (arith, c .loop-i .inv .1, size-more after (c .loop-i .i) (c .length-after-n .result) lt (c .length-after-n .ensures)),
+      over-more after (c .loop-i .i) (c .length-after-n .result) lt (c .length-after-n .ensures) (c .loop-i .inv .2) longest,
+    )
+
+pub returns : need.returns
+returns g c =
+    let names = g .S·Store .held (c .args .store .now) in
+    let after = written (told (c .args .success)) names in
+    over-none after (c .loop-i .i) (c .loop-i .sum) (omega (arith, written-length (told (c .args .success)) names, ap (λ (l : Limits). l .names) (c .tell-limits .ensures), c .loop-i-test .left)) (c .loop-i .inv .0) (c .loop-i .inv .1) (c .loop-i .inv .2)
+
+pub sub-limits : need.sub-limits
+sub-limits g c =
+    let names = g .S·Store .held (c .args .store .now) in
+    omega (arith, c .loop-i .inv .0, ap (λ (l : Limits). l .most) (c .tell-limits .ensures), ap (λ m. m .most) (written-limits (told (c .args .success)) names))

@@ -53,6 +53,7 @@ word-start s t h = go (indirect s t)
   where
     chosen : Bool → Part
     chosen b = cond b (record { start = t .start + 1; size = t .size - 1 }) (record { start = t .start; size = t .size })
+
     go : (b : Bool) → (t .start ≤ chosen b .start) × (chosen b .start + chosen b .size ≤ t .start + t .size)
     go true = (omega arith, omega arith)
     go false = (omega arith, omega arith)
@@ -97,7 +98,7 @@ module _ (reads : List ℕ → Result ℕ TextFault) (bounded : (c : List ℕ) (
     long-here =
         when-all Here (sort-limited (sort-of (t .role)) && ltb 16 (word s t .size)) (fault (word s t .start + 1) Cause.LongName)
         (λ e. let l = ltb-true 16 (word s t .size) (and-second (sort-limited (sort-of (t .role))) (ltb 16 (word s t .size)) e) in
-              let w = word-start s t some in (omega (arith, w .0, w .1), omega (arith, w .0, w .1)))
+        let w = word-start s t some in (omega (arith, w .0, w .1), omega (arith, w .0, w .1)))
 
     ninth-here : All Here (ninth (n .elements) (n .operands) t)
     ninth-here =
@@ -108,9 +109,9 @@ module _ (reads : List ℕ → Result ℕ TextFault) (bounded : (c : List ℕ) (
     extra-here =
         when-all Here (brings-name s t && (leb 64 (length (n .names)) && absent (position (spelling s t) (n .names)))) (fault (word s t .start + 1) Cause.TooMany)
         (λ e. let l = ltb-true 0 (word s t .size)
-                  (and-second (sort-brings (sort-of (t .role)) (indirect s t)) (ltb 0 (word s t .size))
-                    (and-first (brings-name s t) (leb 64 (length (n .names)) && absent (position (spelling s t) (n .names))) e)) in
-              let w = word-start s t some in (omega (arith, w .0, w .1), omega (arith, w .0, w .1)))
+        (and-second (sort-brings (sort-of (t .role)) (indirect s t)) (ltb 0 (word s t .size))
+        (and-first (brings-name s t) (leb 64 (length (n .names)) && absent (position (spelling s t) (n .names))) e)) in
+        let w = word-start s t some in (omega (arith, w .0, w .1), omega (arith, w .0, w .1)))
 
     literal-here : All Here (literal-faults (literal reads s t) (n .symbols) t)
     literal-here = go (is-literal s t) refl
@@ -118,14 +119,15 @@ module _ (reads : List ℕ → Result ℕ TextFault) (bounded : (c : List ℕ) (
         inner : (r : Result ℕ TextFault) → ((f : TextFault) → r ≡ Err f → f .at + 2 ≤ t .size) → All Here (literal-faults r (n .symbols) t)
         inner (Ok k) h = when-all Here (ltb 4096 (n .symbols + k)) (fault (t .start + 1) Cause.TooMany) (λ e. (omega arith, omega arith))
         inner (Err f) h = let l = h f refl in ((omega arith, omega arith), tt)
+
         go : (b : Bool) → is-literal s t ≡ b → All Here (literal-faults (cond b (reads (part-of s (contents t))) (Ok 0)) (n .symbols) t)
         go true e =
             inner (reads (part-of s (contents t)))
             (λ f p. let l = bounded (part-of s (contents t)) f p in
-                    let m = part-short s (contents t) in
-                    let c = ltb-true 1 (t .size) (and-first (ltb 1 (t .size)) (eqb (getD s ((t .start + t .size) - 1) 0) 34)
-                              (and-second (sort-literal (sort-of (t .role))) (closed s t) e)) in
-                    omega (arith, l, m, c))
+            let m = part-short s (contents t) in
+            let c = ltb-true 1 (t .size) (and-first (ltb 1 (t .size)) (eqb (getD s ((t .start + t .size) - 1) 0) 34)
+            (and-second (sort-literal (sort-of (t .role))) (closed s t) e)) in
+            omega (arith, l, m, c))
         go false e = when-all Here (ltb 4096 (n .symbols + 0)) (fault (t .start + 1) Cause.TooMany) (λ e. (omega arith, omega arith))
 
     token-here : All Here (token-faults reads s n t)
@@ -133,7 +135,7 @@ module _ (reads : List ℕ → Result ℕ TextFault) (bounded : (c : List ℕ) (
     token-here =
         all-append Here ((long-name s t ++ ninth (n .elements) (n .operands) t) ++ extra-name s n t) (literal-faults (literal reads s t) (n .symbols) t)
         (all-append Here (long-name s t ++ ninth (n .elements) (n .operands) t) (extra-name s n t)
-          (all-append Here (long-name s t) (ninth (n .elements) (n .operands) t) long-here ninth-here) extra-here)
+        (all-append Here (long-name s t) (ninth (n .elements) (n .operands) t) long-here ninth-here) extra-here)
         literal-here
 
   -- the faults of tokens from k on lie behind k
@@ -145,7 +147,7 @@ module _ (reads : List ℕ → Result ℕ TextFault) (bounded : (c : List ℕ) (
       all-append (After k) (token-faults reads s n t) (faults-from reads s (with-token reads s n t) ts)
       (all-weaker (Between (t .start) (t .start + t .size)) (After k) (λ f b. omega (arith, a, b .0)) (token-faults reads s n t) (token-here n t (h .1)))
       (all-weaker (After (k + t .size)) (After k) (λ f b. omega (arith, b)) (faults-from reads s (with-token reads s n t) ts)
-        (later (with-token reads s n t) (k + t .size) e ts (h .2)))
+      (later (with-token reads s n t) (k + t .size) e ts (h .2)))
 
   -- the first token with a fault has the one that counts
   pub first-ascends : (n : Count) (k e : ℕ) (ts : List Token) → Abut k ts e → first (faults-from reads s n ts) ≡ first-from reads s n ts
@@ -154,7 +156,7 @@ module _ (reads : List ℕ → Result ℕ TextFault) (bounded : (c : List ℕ) (
   first-ascends n k e (t ∷ ts) h =
       first-append (token-faults reads s n t) (faults-from reads s (with-token reads s n t) ts)
       ∙ nearer (token-faults reads s n t) (faults-from reads s (with-token reads s n t) ts) (t .start + t .size)
-          (all-weaker (Between (t .start) (t .start + t .size)) (λ f. f .column ≤ t .start + t .size) (λ f b. b .1) (token-faults reads s n t) (token-here n t (h .1)))
-          (subst (λ (j : ℕ). All (After j) (faults-from reads s (with-token reads s n t) ts)) (let a = h .0 in omega (arith, a))
-            (later (with-token reads s n t) (k + t .size) e ts (h .2)))
+      (all-weaker (Between (t .start) (t .start + t .size)) (λ f. f .column ≤ t .start + t .size) (λ f b. b .1) (token-faults reads s n t) (token-here n t (h .1)))
+      (subst (λ (j : ℕ). All (After j) (faults-from reads s (with-token reads s n t) ts)) (let a = h .0 in omega (arith, a))
+      (later (with-token reads s n t) (k + t .size) e ts (h .2)))
       ∙ ap (or-else (first (token-faults reads s n t))) (first-ascends (with-token reads s n t) (k + t .size) e ts (h .2))

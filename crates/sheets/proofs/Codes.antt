@@ -43,4 +43,3 @@ module _ (s : List ℕ) (i : ℕ) (h : i < length s) where
 pub bad-none : (k : ℕ) (s : List ℕ) (i : ℕ) → i ≡ length s → first (bad-codes k (drop i s)) ≡ None
 unfolding bad-codes
 bad-none k s i e = ap (λ (j : ℕ). first (bad-codes k (drop j s))) e ∙ ap (λ (t : List ℕ). first (bad-codes k t)) (drop-length s)
-

@@ -65,31 +65,38 @@ true-not-false b e f = let z : _≡_ {A = ℕ} 0 1 = cc in omega arith
 
 module _ (f : Fault) (fs : List Fault) where
   counts-at : (o : Option Fault) → Counts fs o → Counts (f ∷ fs) (least (Some f) o)
-  counts-at None e =
-      (List·Memᴰ·head refl,
-       λ g m p. elim (List·Memᴰ·cases-cons m) [
-           inl x ↦ true-not-false (before f f) (ap (λ (k : Fault). before k f) (sym x) ∙ p) (before-self f)
-         | inr x ↦ nothing (subst (List·Memᴰ g) e x) ])
+  counts-at None e = (
+    List·Memᴰ·head refl,
+    λ g m p. elim (List·Memᴰ·cases-cons m) [
+      | inl x ↦ true-not-false (before f f) (ap (λ (k : Fault). before k f) (sym x) ∙ p) (before-self f)
+      | inr x ↦ nothing (subst (List·Memᴰ g) e x)
+    ],
+  )
     where
       nothing : {g : Fault} → List·Memᴰ g [] → ⊥
       nothing x = elim x [ ]
   counts-at (Some g) k = go (before g f) refl
     where
       go : (x : Bool) → before g f ≡ x → Counts (f ∷ fs) (cond x (Some g) (Some f))
-      go true e =
-          (List·Memᴰ·tail (k .0),
-           λ h m p. elim (List·Memᴰ·cases-cons m) [
-               inl y ↦ true-not-false (before g g) (before-trans g f g e (ap (λ (z : Fault). before z g) (sym y) ∙ p)) (before-self g)
-             | inr y ↦ k .1 h y p ])
-      go false e =
-          (List·Memᴰ·head refl,
-           λ h m p. elim (List·Memᴰ·cases-cons m) [
-               inl y ↦ true-not-false (before f f) (ap (λ (z : Fault). before z f) (sym y) ∙ p) (before-self f)
-             | inr y ↦ true-not-false (before h f) p (before-not f g h (no-before h y) e) ])
+      go true e = (
+        List·Memᴰ·tail (k .0),
+        λ h m p. elim (List·Memᴰ·cases-cons m) [
+          | inl y ↦ true-not-false (before g g) (before-trans g f g e (ap (λ (z : Fault). before z g) (sym y) ∙ p)) (before-self g)
+          | inr y ↦ k .1 h y p
+        ],
+      )
+      go false e = (
+        List·Memᴰ·head refl,
+        λ h m p. elim (List·Memᴰ·cases-cons m) [
+          | inl y ↦ true-not-false (before f f) (ap (λ (z : Fault). before z f) (sym y) ∙ p) (before-self f)
+          | inr y ↦ true-not-false (before h f) p (before-not f g h (no-before h y) e)
+        ],
+      )
         where
           to-false : (b : Bool) → (b ≡ true → ⊥) → b ≡ false
           to-false true n = absurd (n refl)
           to-false false n = refl
+
           no-before : (h : Fault) → List·Memᴰ h fs → before h g ≡ false
           no-before h y = to-false (before h g) (λ p. k .1 h y p)
 

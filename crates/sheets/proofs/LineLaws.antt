@@ -49,7 +49,7 @@ pub form-first : (statements : ℕ) (labels : List (List ℕ)) (s : List ℕ) (a
 form-first statements labels s a b c d e i p q f g h =
     three a b c d e (first (no-statement s)) (first (extra-statement statements s)) (first (second-label labels s)) p q f g h
     ∙ sym (first-append (no-statement s ++ extra-statement statements s) (second-label labels s)
-      ∙ ap (λ (o : Option Fault). least o (first (second-label labels s))) (first-append (no-statement s) (extra-statement statements s)))
+    ∙ ap (λ (o : Option Fault). least o (first (second-label labels s))) (first-append (no-statement s) (extra-statement statements s)))
     ∙ ap (λ (x : Bool). first (cond x [] ((no-statement s ++ extra-statement statements s) ++ second-label labels s))) i
 
 abbrev bringing : ℕ → List (List ℕ) → ℕ → List (List ℕ) → Bool → Brought
@@ -80,8 +80,8 @@ module _ (reads : List ℕ → Result ℕ TextFault) (text s : List ℕ) (names 
   unfolding with-line
   check-passed own e p l =
       let f : first (line-faults reads n s) ≡ own =
-          line-first ∙ ap (λ (b : Bool). least (first (own-faults n s)) (first (cond b [] token-part))) (sym p)
-          ∙ least-none (first (own-faults n s)) ∙ sym e in
+      line-first ∙ ap (λ (b : Bool). least (first (own-faults n s)) (first (cond b [] token-part))) (sym p)
+      ∙ least-none (first (own-faults n s)) ∙ sym e in
       go own f
     where
       go : (o : Option Fault) → first (line-faults reads n s) ≡ o → Checked (first (line-faults reads n s)) (with-line reads n s) text names labels (answered o before)
@@ -101,17 +101,17 @@ module _ (reads : List ℕ → Result ℕ TextFault) (text s : List ℕ) (names 
     room : own ≡ None → (leb 128 (before .statements) && not (labelled-end s)) ≡ false
     room o =
         let all : least (first (code-faults s)) (first (form-faults (before .statements) (n .labels) (before .ended) s)) ≡ None =
-            sym (e ∙ first-append (code-faults s) (form-faults (before .statements) (n .labels) (before .ended) s)) ∙ o in
+        sym (e ∙ first-append (code-faults s) (form-faults (before .statements) (n .labels) (before .ended) s)) ∙ o in
         let form : first (form-faults (before .statements) (n .labels) (before .ended) s) ≡ None =
-            least-none-right (first (code-faults s)) (first (form-faults (before .statements) (n .labels) (before .ended) s)) all in
+        least-none-right (first (code-faults s)) (first (form-faults (before .statements) (n .labels) (before .ended) s)) all in
         let open₁ : first ((no-statement s ++ extra-statement (before .statements) s) ++ second-label (n .labels) s) ≡ None =
-            ap (λ (b : Bool). first (cond b [] (cond false (fault 1 Cause.End ∷ []) ((no-statement s ++ extra-statement (before .statements) s) ++ second-label (n .labels) s))))
-              (or-left (idle s) (before .ended) p)
-            ∙ ap (λ (b : Bool). first (form-faults (before .statements) (n .labels) b s)) (or-right (idle s) (before .ended) p) ∙ form in
+        ap (λ (b : Bool). first (cond b [] (cond false (fault 1 Cause.End ∷ []) ((no-statement s ++ extra-statement (before .statements) s) ++ second-label (n .labels) s))))
+        (or-left (idle s) (before .ended) p)
+        ∙ ap (λ (b : Bool). first (form-faults (before .statements) (n .labels) b s)) (or-right (idle s) (before .ended) p) ∙ form in
         let both : least (first (no-statement s)) (first (extra-statement (before .statements) s)) ≡ None =
-            sym (first-append (no-statement s) (extra-statement (before .statements) s))
-            ∙ least-none-left (first (no-statement s ++ extra-statement (before .statements) s)) (first (second-label (n .labels) s))
-              (sym (first-append (no-statement s ++ extra-statement (before .statements) s) (second-label (n .labels) s)) ∙ open₁) in
+        sym (first-append (no-statement s) (extra-statement (before .statements) s))
+        ∙ least-none-left (first (no-statement s ++ extra-statement (before .statements) s)) (first (second-label (n .labels) s))
+        (sym (first-append (no-statement s ++ extra-statement (before .statements) s) (second-label (n .labels) s)) ∙ open₁) in
         when-none (leb 128 (before .statements) && not (labelled-end s)) (fault 1 Cause.TooMany)
         (least-none-right (first (no-statement s)) (first (extra-statement (before .statements) s)) both)
 
@@ -132,6 +132,7 @@ module _ (reads : List ℕ → Result ℕ TextFault) (text s : List ℕ) (names 
         where
           k₁ : ℕ
           k₁ = cond (labelled-end s) (before .statements) (before .statements + 1)
+
           l₁ : List (List ℕ)
           l₁ = cond (labelled-end s) (n .labels) (n .labels ++ (label s ∷ []))
 
@@ -148,6 +149,9 @@ module _ (reads : List ℕ → Result ℕ TextFault) (text s : List ℕ) (names 
         where
           go : (o : Option Fault) → own ≡ o → first (line-faults reads n s) ≡ own
               → Checked (first (line-faults reads n s)) (with-line reads n s) text names′ labels′ (answered o now-carried)
-          go None q f = (f ∙ q, brought ∙ ap (λ (b : Bool). cond b n (with-statement reads n s)) p,
-              record { statements = in-limit q l; symbols = w .symbols; names = w .names })
+          go None q f = (
+            f ∙ q,
+            brought ∙ ap (λ (b : Bool). cond b n (with-statement reads n s)) p,
+            record { statements = in-limit q l; symbols = w .symbols; names = w .names },
+          )
           go (Some x) q f = f ∙ q

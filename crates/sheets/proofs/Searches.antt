@@ -54,7 +54,7 @@ module _ (text : List ℕ) (ps : List Part) (n : ℕ) (p : Part) (h : n < length
   noted x m e f none =
       pushed
       ∙ ap (λ (o : Option ℕ). or-added o (part-of text p) (map (part-of text) (take n ps)))
-          (none ∙ ap (λ (k : ℕ). position x (map (part-of text) (take k ps))) f ∙ ap (λ (y : List ℕ). position y (map (part-of text) (take n ps))) e)
+      (none ∙ ap (λ (k : ℕ). position x (map (part-of text) (take k ps))) f ∙ ap (λ (y : List ℕ). position y (map (part-of text) (take n ps))) e)
 
 -- the characters of a part, as far as the text has them
 take-clipped : (s : List ℕ) (m : ℕ) → take (cond (ltb m (length s)) m (length s)) s ≡ take m s
@@ -121,6 +121,8 @@ first-place x ys = go (position x ys) (stands 0 x ys)
     go : (o : Option ℕ) → Stands 0 x ys o → First x ys o
     go None h = h
     go (Some n) h =
-        let e : n ≡ h .0 = omega (arith, h .1) in
-        (subst (λ (k : ℕ). k < length ys) (sym e) (h .2), ap (λ (k : ℕ). getD ys k []) e ∙ h .3,
-         λ k l f. h .4 k (subst (λ (m : ℕ). k < m) e l) f)
+        let e : n ≡ h .0 = omega (arith, h .1) in (
+          subst (λ (k : ℕ). k < length ys) (sym e) (h .2),
+          ap (λ (k : ℕ). getD ys k []) e ∙ h .3,
+          λ k l f. h .4 k (subst (λ (m : ℕ). k < m) e l) f,
+        )

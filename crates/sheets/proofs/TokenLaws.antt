@@ -36,8 +36,8 @@ module _ (reads : List ℕ → Result ℕ TextFault) (s : List ℕ) (n : Count) 
   token-first =
       first-append ((long-name s t ++ ninth (n .elements) (n .operands) t) ++ extra-name s n t) (literal-faults (literal reads s t) (n .symbols) t)
       ∙ ap (λ (o : Option Fault). least o (first (literal-faults (literal reads s t) (n .symbols) t)))
-          (first-append (long-name s t ++ ninth (n .elements) (n .operands) t) (extra-name s n t)
-          ∙ ap (λ (o : Option Fault). least o (first (extra-name s n t))) (first-append (long-name s t) (ninth (n .elements) (n .operands) t)))
+      (first-append (long-name s t ++ ninth (n .elements) (n .operands) t) (extra-name s n t)
+      ∙ ap (λ (o : Option Fault). least o (first (extra-name s n t))) (first-append (long-name s t) (ninth (n .elements) (n .operands) t)))
 
 joined-err : (o : Option Fault) (g : Fault) (k : ℕ) → joined o (Err g) ≡ answered (least o (Some g)) k
 joined-err None g k = refl
@@ -95,6 +95,7 @@ word-within s t h = go (indirect s t)
   where
     chosen : Bool → Part
     chosen b = cond b (record { start = t .start + 1; size = t .size - 1 }) (record { start = t .start; size = t .size })
+
     go : (b : Bool) → chosen b .start + chosen b .size ≤ length s
     go true = let a = h .some in let b = h .within in omega arith
     go false = h .within
@@ -143,7 +144,7 @@ module _ (reads : List ℕ → Result ℕ TextFault) (s : List ℕ) (n : Count) 
   few =
       when-none (leb 8 (opened-before (opened-by (t .role)) (n .elements) (n .operands))) (fault (t .start + 1) Cause.TooMany)
       (least-none-right (first (long-name s t)) (first (ninth (n .elements) (n .operands) t))
-        (least-none-left (least (first (long-name s t)) (first (ninth (n .elements) (n .operands) t))) (first (extra-name s n t)) without))
+      (least-none-left (least (first (long-name s t)) (first (ninth (n .elements) (n .operands) t))) (first (extra-name s n t)) without))
 
   pub elements-bound : n .elements ≤ 8 → n .elements + elements-opened (opened-by (t .role)) ≤ 8
   elements-bound h = go (opened-by (t .role)) few
@@ -215,9 +216,14 @@ module _ (reads : List ℕ → Result ℕ TextFault) (s text : List ℕ) (names 
 
     pub token-took : Within tally → tally .names ≤ length names → m ≤ length names′
         → Took (first (token-faults reads s so-far t)) (with-token reads s so-far t) text names′ (Ok tallied)
-    token-took w r r′ = (no-fault, counted-with, record {
+    token-took w r r′ = (
+      no-fault,
+      counted-with,
+      record {
         elements = subst (λ (x : ℕ). tally .elements + x ≤ 8) (sym ee) (elements-bound reads s so-far t no-fault (w .elements));
         operands = subst (λ (x : ℕ). tally .operands + x ≤ 8) (sym oo) (operands-bound reads s so-far t no-fault (w .operands));
         symbols = symbols-fit w;
         names = subst (λ (x : ℕ). x ≤ 64) (ap length (sym nn) ∙ length-named text names′ m r′)
-          (names-bound reads s so-far t no-fault (subst (λ (x : ℕ). x ≤ 64) (sym (length-named text names (tally .names) r)) (w .names))) })
+            (names-bound reads s so-far t no-fault (subst (λ (x : ℕ). x ≤ 64) (sym (length-named text names (tally .names) r)) (w .names)));
+      },
+    )

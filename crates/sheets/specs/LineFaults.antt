@@ -105,7 +105,8 @@ module _ (reads : List ℕ → Result ℕ TextFault) where
         labels = cond (labelled-end s) (n .labels) (n .labels ++ (label s ∷ []));
         symbols = count-from reads s (none-yet n) (tokens s) .symbols;
         names = count-from reads s (none-yet n) (tokens s) .names;
-        ended = labelled-end s }
+        ended = labelled-end s;
+      }
 
   -- what a line without fault adds
   unfoldable pub with-line : Brought → List ℕ → Brought
@@ -119,7 +120,8 @@ carried text names labels c =
       labels = map (part-of text) (take (c .statements) labels);
       symbols = c .symbols;
       names = map (part-of text) (take (c .names) names);
-      ended = c .ended }
+      ended = c .ended;
+    }
 
 -- a sheet that goes over no limit
 pub record Limited (c : Carried) : Type 0 where

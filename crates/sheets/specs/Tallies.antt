@@ -158,7 +158,8 @@ module _ (reads : List ℕ → Result ℕ TextFault) where
         elements = n .elements + elements-opened (opened-by (t .role));
         operands = n .operands + operands-opened (opened-by (t .role));
         symbols = n .symbols + symbols-added (literal s t);
-        names = cond (brings-name s t) (with-word (spelling s t) (n .names)) (n .names) }
+        names = cond (brings-name s t) (with-word (spelling s t) (n .names)) (n .names);
+      }
 
   -- the faults of tokens, each with what is counted before it
   unfoldable pub faults-from : List ℕ → Count → List Token → List Fault

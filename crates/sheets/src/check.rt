@@ -12,18 +12,18 @@ ghost use Rattle.sheets.specs.Faults.{least, first};
 ghost use Rattle.sheets.specs.Parts.{part-of};
 ghost use Rattle.sheets.specs.Tallies.{counts, Lies};
 ghost use Rattle.sheets.specs.LineFaults.{too-long, bad-codes, code-faults, label, label-size, no-statement, labelled-end, extra-statement, second-label, form-faults, own-faults, line-faults, with-line, carried, Limited, Checked};
-use crate::fault::is_before;
-use crate::fault::least;
 use crate::fault::Cause;
 use crate::fault::Fault;
+use crate::fault::is_before;
+use crate::fault::least;
+use crate::part::Part;
 use crate::part::find_word;
 use crate::part::same_text;
-use crate::part::Part;
-use crate::tally::check_tokens;
 use crate::tally::Tally;
+use crate::tally::check_tokens;
+use lines::line::Form;
 use lines::line::is_idle;
 use lines::line::read_line;
-use lines::line::Form;
 use lines::reading::LabelReading;
 use lines::reading::Reading;
 use lines::role::Role;
@@ -42,7 +42,14 @@ pub struct Carried {
 fn too_long(line: &[u8]) -> Option<Fault>
     ensures { λ r. ⌜ r ≡ first (too-long (now (line .entry))) ⌝ }
 {
-    if line.len() > 120 { Some(Fault { column: 121, cause: Cause::LineLong }) } else { None }
+    if line.len() > 120 {
+        Some(Fault {
+            column: 121,
+            cause: Cause::LineLong,
+        })
+    } else {
+        None
+    }
 }
 
 fn bad_code(line: &[u8]) -> Option<Fault>
@@ -52,7 +59,10 @@ fn bad_code(line: &[u8]) -> Option<Fault>
     for (i, c) in line.iter().enumerate() {
         let code = *c;
         if code < 32 || code > 126 {
-            return Some(Fault { column: i + 1, cause: Cause::BadCode });
+            return Some(Fault {
+                column: i + 1,
+                cause: Cause::BadCode,
+            });
         }
     }
     None
@@ -82,7 +92,11 @@ fn label_size(line: &[u8]) -> usize
     let Some(taken) = token_at(line, 0, Reading::Label(LabelReading::Begin)) else {
         return 0;
     };
-    if taken.token.role.same(Role::Label) { taken.token.size } else { 0 }
+    if taken.token.role.same(Role::Label) {
+        taken.token.size
+    } else {
+        0
+    }
 }
 
 // No statement line, after the longest beginning that some statement line has.
@@ -92,7 +106,10 @@ fn no_statement(line: &[u8]) -> Option<Fault>
 {
     let read = read_line(line);
     match read.form {
-        Form::Broken => Some(Fault { column: read.reach + 1, cause: Cause::NoStatement }),
+        Form::Broken => Some(Fault {
+            column: read.reach + 1,
+            cause: Cause::NoStatement,
+        }),
         Form::Idle | Form::Statement | Form::End => None,
     }
 }
@@ -107,7 +124,14 @@ fn labelled_end(line: &[u8]) -> bool
 fn extra_statement(line: &[u8], statements: usize) -> Option<Fault>
     ensures { λ r. ⌜ r ≡ first (extra-statement statements (now (line .entry))) ⌝ }
 {
-    if statements >= 128 && !labelled_end(line) { Some(Fault { column: 1, cause: Cause::TooMany }) } else { None }
+    if statements >= 128 && !labelled_end(line) {
+        Some(Fault {
+            column: 1,
+            cause: Cause::TooMany,
+        })
+    } else {
+        None
+    }
 }
 
 // A label that a statement before has, in column 1.
@@ -120,7 +144,10 @@ fn second_label(text: &[u8], labels: &[Part], line: &[u8], statements: usize) ->
         return None;
     }
     match find_word(text, &labels[0..statements], label) {
-        Some(_) => Some(Fault { column: 1, cause: Cause::SecondLabel }),
+        Some(_) => Some(Fault {
+            column: 1,
+            cause: Cause::SecondLabel,
+        }),
         None => None,
     }
 }
@@ -135,14 +162,26 @@ fn form_fault(text: &[u8], labels: &[Part], line: &[u8], before: Carried) -> Opt
         return None;
     }
     if before.ended {
-        return Some(Fault { column: 1, cause: Cause::End });
+        return Some(Fault {
+            column: 1,
+            cause: Cause::End,
+        });
     }
     let statements = before.statements;
-    least(least(no_statement(line), extra_statement(line, statements)), second_label(text, labels, line, statements))
+    least(
+        least(no_statement(line), extra_statement(line, statements)),
+        second_label(text, labels, line, statements),
+    )
 }
 
 // Labels of statements, once the line's is among them; END's line has no statement.
-fn note_label(text: &[u8], from: usize, line: &[u8], labels: &mut [Part], statements: usize) -> usize
+fn note_label(
+    text: &[u8],
+    from: usize,
+    line: &[u8],
+    labels: &mut [Part],
+    statements: usize,
+) -> usize
     requires lies { ⌜ Lies (now text) from (now line) ⌝ }
     requires room { ⌜ statements < length (now labels) ⌝ }
     ensures value { λ r. ⌜ r ≡ cond (labelled-end (now (line .entry))) statements (statements + 1) ⌝ }
@@ -151,7 +190,10 @@ fn note_label(text: &[u8], from: usize, line: &[u8], labels: &mut [Part], statem
     if labelled_end(line) {
         return statements;
     }
-    labels[statements] = Part { start: from, size: label_size(line) };
+    labels[statements] = Part {
+        start: from,
+        size: label_size(line),
+    };
     statements + 1
 }
 
@@ -190,7 +232,15 @@ fn settle(fault: Option<Fault>, carried: Carried) -> Result<Carried, Fault>
 }
 
 // One line after those before it: what they then have brought, or the line's fault that counts.
-pub(crate) fn check_line<K: Kind>(kind: &K, text: &[u8], from: usize, line: &[u8], names: &mut [Part], labels: &mut [Part], before: Carried) -> Result<Carried, Fault>
+pub(crate) fn check_line<K: Kind>(
+    kind: &K,
+    text: &[u8],
+    from: usize,
+    line: &[u8],
+    names: &mut [Part],
+    labels: &mut [Part],
+    before: Carried,
+) -> Result<Carried, Fault>
     requires small { ⌜ length (now line) < 2 ^ 32 ⌝ }
     requires place { ⌜ from < 2 ^ 32 ⌝ }
     requires lies { ⌜ Lies (now text) from (now line) ⌝ }
@@ -203,13 +253,26 @@ pub(crate) fn check_line<K: Kind>(kind: &K, text: &[u8], from: usize, line: &[u8
     if is_passed(line, before.ended) {
         return settle(own, before);
     }
-    let tally = Tally { elements: 0, operands: 0, symbols: before.symbols, names: before.names };
+    let tally = Tally {
+        elements: 0,
+        operands: 0,
+        symbols: before.symbols,
+        names: before.names,
+    };
     match check_tokens(kind, text, from, line, names, tally) {
         Err(f) => Err(lesser(own, f)),
         Ok(tally) => {
             let ended = labelled_end(line);
             let statements = note_label(text, from, line, labels, before.statements);
-            settle(own, Carried { statements, symbols: tally.symbols, names: tally.names, ended })
+            settle(
+                own,
+                Carried {
+                    statements,
+                    symbols: tally.symbols,
+                    names: tally.names,
+                    ended,
+                },
+            )
         }
     }
 }

@@ -46,7 +46,11 @@ impl Cause {
     {
         match self {
             Cause::Symbol(_) => 1,
-            Cause::LineLong | Cause::BadCode | Cause::NoStatement | Cause::LongName | Cause::TooMany => 2,
+            Cause::LineLong
+            | Cause::BadCode
+            | Cause::NoStatement
+            | Cause::LongName
+            | Cause::TooMany => 2,
             _ => 3,
         }
     }
@@ -85,7 +89,10 @@ pub impl From<SymbolAt> for Fault as FaultFromSymbol {
     ghost converts = { λ e r. r ≡ symbol-fault e };
 
     fn from(e: SymbolAt) -> Fault {
-        Fault { column: e.column, cause: Cause::Symbol(e.fault) }
+        Fault {
+            column: e.column,
+            cause: Cause::Symbol(e.fault),
+        }
     }
 }
 
@@ -93,7 +100,11 @@ pub impl From<LineFault> for Refusal as RefusalFromLine {
     ghost converts = { λ e r. r ≡ refused-at e };
 
     fn from(e: LineFault) -> Refusal {
-        Refusal { line: e.line, column: e.fault.column, cause: e.fault.cause }
+        Refusal {
+            line: e.line,
+            column: e.fault.column,
+            cause: e.fault.cause,
+        }
     }
 }
 

@@ -30,7 +30,8 @@ pub fn sort_of(role: Role) -> Sort
 {
     match role {
         Role::Label | Role::Start => Sort::Label,
-        Role::Reference | Role::Element | Role::Operand | Role::Variable | Role::Group => Sort::Name,
+        Role::Reference | Role::Element | Role::Operand | Role::Variable | Role::Group =>
+            Sort::Name,
         Role::Both | Role::OnS | Role::OnF => Sort::Target,
         Role::LiteralElement | Role::LiteralOperand => Sort::Literal,
         Role::Between | Role::Star | Role::Length | Role::Equal => Sort::Other,
@@ -62,9 +63,15 @@ pub(crate) fn word(line: &[u8], token: Token) -> Part
     ensures { λ r. ⌜ r ≡ word (now (line .entry)) token ⌝ }
 {
     if is_indirect(line, token) {
-        Part { start: token.start + 1, size: token.size - 1 }
+        Part {
+            start: token.start + 1,
+            size: token.size - 1,
+        }
     } else {
-        Part { start: token.start, size: token.size }
+        Part {
+            start: token.start,
+            size: token.size,
+        }
     }
 }
 
@@ -104,5 +111,8 @@ pub(crate) fn contents(token: Token) -> Part
     requires { ⌜ 1 < token .size ⌝ }
     ensures { λ r. ⌜ r ≡ contents token ⌝ }
 {
-    Part { start: token.start + 1, size: token.size - 2 }
+    Part {
+        start: token.start + 1,
+        size: token.size - 2,
+    }
 }

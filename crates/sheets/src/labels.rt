@@ -12,16 +12,16 @@ use crate::fault::Cause;
 use crate::fault::Fault;
 use crate::fault::Refusal;
 use crate::item::is_indirect;
+use crate::part::Part;
 use crate::part::find_word;
 use crate::part::part_of;
 use crate::part::same_text;
-use crate::part::Part;
 use crate::reader::line_end;
 use lines::reading::LabelReading;
 use lines::reading::Reading;
 use lines::role::Role;
-use lines::token::token_at;
 use lines::token::Token;
+use lines::token::token_at;
 
 // Whether the token is the label to start at, or a go-to's without `$`.
 fn goes_to(line: &[u8], token: Token) -> bool
@@ -50,7 +50,13 @@ fn is_known(text: &[u8], labels: &[Part], statements: usize, word: &[u8]) -> boo
 }
 
 // A label that no statement has, at its start.
-fn token_unknown(text: &[u8], labels: &[Part], statements: usize, line: &[u8], token: Token) -> Option<Fault>
+fn token_unknown(
+    text: &[u8],
+    labels: &[Part],
+    statements: usize,
+    line: &[u8],
+    token: Token,
+) -> Option<Fault>
     requires inside { ⌜ Inside (now line) token ⌝ }
     requires small { ⌜ length (now line) < 2 ^ 32 ⌝ }
     requires room { ⌜ statements ≤ length (now labels) ⌝ }
@@ -59,8 +65,21 @@ fn token_unknown(text: &[u8], labels: &[Part], statements: usize, line: &[u8], t
     if !goes_to(line, token) {
         return None;
     }
-    let label = part_of(line, Part { start: token.start, size: token.size });
-    if is_known(text, labels, statements, label) { None } else { Some(Fault { column: token.start + 1, cause: Cause::UnknownLabel }) }
+    let label = part_of(
+        line,
+        Part {
+            start: token.start,
+            size: token.size,
+        },
+    );
+    if is_known(text, labels, statements, label) {
+        None
+    } else {
+        Some(Fault {
+            column: token.start + 1,
+            cause: Cause::UnknownLabel,
+        })
+    }
 }
 
 // The first label of a line that no statement has.
@@ -92,7 +111,11 @@ pub(crate) fn unknown_label(text: &[u8], labels: &[Part], statements: usize) -> 
     while from < text.len() {
         let end = line_end(text, from);
         if let Some(fault) = line_unknown(text, labels, statements, &text[from..end]) {
-            return Some(Refusal { line: number, column: fault.column, cause: fault.cause });
+            return Some(Refusal {
+                line: number,
+                column: fault.column,
+                cause: fault.cause,
+            });
         }
         from = end + 1;
         number += 1;

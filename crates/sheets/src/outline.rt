@@ -21,7 +21,11 @@ pub struct Outline {
 fn nowhere(cause: Cause) -> Refusal
     ensures { λ r. ⌜ r ≡ nowhere cause ⌝ }
 {
-    Refusal { line: 0, column: 0, cause }
+    Refusal {
+        line: 0,
+        column: 0,
+        cause,
+    }
 }
 
 // Checks the text of a sheet, its literals as symbols of the kind.
@@ -40,5 +44,9 @@ pub fn survey<K: Kind>(kind: &K, text: &[u8]) -> Result<Outline, Refusal>
     if let Some(refusal) = unknown_label(text, &labels, carried.statements) {
         return Err(refusal);
     }
-    Ok(Outline { carried, names, labels })
+    Ok(Outline {
+        carried,
+        names,
+        labels,
+    })
 }

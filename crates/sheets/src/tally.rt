@@ -11,28 +11,28 @@ ghost use Rattle.symbols.specs.Answers.{answered};
 ghost use Rattle.sheets.specs.Items.{Inside, brings-name, spelling};
 ghost use Rattle.sheets.specs.Parts.{part-of, with-word};
 ghost use Rattle.sheets.specs.Tallies.{counts, told, Within, long-name, ninth, extra-name, literal, placed, literal-answer, joined, token-faults, symbols-added, elements-opened, operands-opened, with-token, faults-from, count-from, Lies, Took};
-use crate::fault::is_before;
-use crate::fault::least;
 use crate::fault::Cause;
 use crate::fault::Fault;
 use crate::fault::FaultFromSymbol;
 use crate::fault::SymbolAt;
+use crate::fault::is_before;
+use crate::fault::least;
+use crate::item::Opened;
+use crate::item::Sort;
 use crate::item::brings_name;
 use crate::item::contents;
 use crate::item::is_closed;
 use crate::item::opened_by;
 use crate::item::sort_of;
 use crate::item::word;
-use crate::item::Opened;
-use crate::item::Sort;
+use crate::part::Part;
 use crate::part::find_word;
 use crate::part::note_word;
 use crate::part::part_of;
-use crate::part::Part;
 use lines::reading::LabelReading;
 use lines::reading::Reading;
-use lines::token::token_at;
 use lines::token::Token;
+use lines::token::token_at;
 use symbols::kind::Kind;
 use symbols::text::check_text;
 
@@ -62,7 +62,11 @@ fn long_name(line: &[u8], token: Token) -> Option<Fault>
         Sort::Other | Sort::Literal => false,
     };
     let word = word(line, token);
-    if limited && word.size > 16 { fault_at(word.start + 1, Cause::LongName) } else { None }
+    if limited && word.size > 16 {
+        fault_at(word.start + 1, Cause::LongName)
+    } else {
+        None
+    }
 }
 
 // The ninth element or right side operand, at its first character.
@@ -75,7 +79,11 @@ fn ninth(tally: Tally, token: Token) -> Option<Fault>
         Opened::Element => tally.elements,
         Opened::Operand => tally.operands,
     };
-    if before >= 8 { fault_at(token.start + 1, Cause::TooMany) } else { None }
+    if before >= 8 {
+        fault_at(token.start + 1, Cause::TooMany)
+    } else {
+        None
+    }
 }
 
 // The symbols of a literal, 0 for any other token; a symbol fault has its column.
@@ -92,12 +100,20 @@ fn literal<K: Kind>(kind: &K, line: &[u8], token: Token) -> Result<usize, Symbol
     }
     match check_text(kind, part_of(line, contents(token))) {
         Ok(count) => Ok(count),
-        Err(e) => Err(SymbolAt { column: token.start + 2 + e.at, fault: e.fault }),
+        Err(e) => Err(SymbolAt {
+            column: token.start + 2 + e.at,
+            fault: e.fault,
+        }),
     }
 }
 
 // The symbols that a token adds to the constants, of which there are `before`, or its fault.
-fn literal_symbols<K: Kind>(kind: &K, line: &[u8], token: Token, before: usize) -> Result<usize, Fault>
+fn literal_symbols<K: Kind>(
+    kind: &K,
+    line: &[u8],
+    token: Token,
+    before: usize,
+) -> Result<usize, Fault>
     requires inside { ⌜ Inside (now line) token ⌝ }
     requires small { ⌜ length (now line) < 2 ^ 32 ⌝ }
     requires room { ⌜ before ≤ 4096 ⌝ }
@@ -105,7 +121,10 @@ fn literal_symbols<K: Kind>(kind: &K, line: &[u8], token: Token, before: usize) 
 {
     let count = literal(kind, line, token)?;
     if count > 4096 - before {
-        return Err(Fault { column: token.start + 1, cause: Cause::TooMany });
+        return Err(Fault {
+            column: token.start + 1,
+            cause: Cause::TooMany,
+        });
     }
     Ok(count)
 }
@@ -145,19 +164,36 @@ fn joined(fault: Option<Fault>, counted: Result<usize, Fault>) -> Result<usize, 
 }
 
 // The symbols that a token adds to the constants, or the fault of the token that counts.
-fn token_symbols<K: Kind>(kind: &K, text: &[u8], names: &[Part], line: &[u8], tally: Tally, token: Token) -> Result<usize, Fault>
+fn token_symbols<K: Kind>(
+    kind: &K,
+    text: &[u8],
+    names: &[Part],
+    line: &[u8],
+    tally: Tally,
+    token: Token,
+) -> Result<usize, Fault>
     requires inside { ⌜ Inside (now line) token ⌝ }
     requires small { ⌜ length (now line) < 2 ^ 32 ⌝ }
     requires room { ⌜ tally .names ≤ length (now names) ⌝ }
     requires within { ⌜ Within tally ⌝ }
     ensures { λ r. ⌜ r ≡ answered (first (token-faults (counts (K·Kind .meant) (K·Kind .wide)) (now (line .entry)) (told (now (text .entry)) (now (names .entry)) tally) token)) (symbols-added (literal (counts (K·Kind .meant) (K·Kind .wide)) (now (line .entry)) token)) ⌝ }
 {
-    let fault = least(least(long_name(line, token), ninth(tally, token)), extra_name(text, names, line, tally, token));
+    let fault = least(
+        least(long_name(line, token), ninth(tally, token)),
+        extra_name(text, names, line, tally, token),
+    );
     joined(fault, literal_symbols(kind, line, token, tally.symbols))
 }
 
 // The names once the name of a token, if it has one, is among them: their number.
-fn note_name(text: &[u8], from: usize, line: &[u8], names: &mut [Part], count: usize, token: Token) -> usize
+fn note_name(
+    text: &[u8],
+    from: usize,
+    line: &[u8],
+    names: &mut [Part],
+    count: usize,
+    token: Token,
+) -> usize
     requires inside { ⌜ Inside (now line) token ⌝ }
     requires small { ⌜ length (now line) < 2 ^ 32 ⌝ }
     requires place { ⌜ from < 2 ^ 32 ⌝ }
@@ -170,7 +206,15 @@ fn note_name(text: &[u8], from: usize, line: &[u8], names: &mut [Part], count: u
         return count;
     }
     let word = word(line, token);
-    note_word(text, names, count, Part { start: from + word.start, size: word.size })
+    note_word(
+        text,
+        names,
+        count,
+        Part {
+            start: from + word.start,
+            size: word.size,
+        },
+    )
 }
 
 fn elements_opened(opened: Opened) -> usize
@@ -192,7 +236,15 @@ fn operands_opened(opened: Opened) -> usize
 }
 
 // One token: what is counted with it, or its fault.
-fn take_token<K: Kind>(kind: &K, text: &[u8], from: usize, line: &[u8], names: &mut [Part], tally: Tally, token: Token) -> Result<Tally, Fault>
+fn take_token<K: Kind>(
+    kind: &K,
+    text: &[u8],
+    from: usize,
+    line: &[u8],
+    names: &mut [Part],
+    tally: Tally,
+    token: Token,
+) -> Result<Tally, Fault>
     requires inside { ⌜ Inside (now line) token ⌝ }
     requires small { ⌜ length (now line) < 2 ^ 32 ⌝ }
     requires place { ⌜ from < 2 ^ 32 ⌝ }
@@ -213,7 +265,14 @@ fn take_token<K: Kind>(kind: &K, text: &[u8], from: usize, line: &[u8], names: &
 }
 
 // The tokens of a line, left to right: what is counted with them, or their fault that counts.
-pub(crate) fn check_tokens<K: Kind>(kind: &K, text: &[u8], from: usize, line: &[u8], names: &mut [Part], before: Tally) -> Result<Tally, Fault>
+pub(crate) fn check_tokens<K: Kind>(
+    kind: &K,
+    text: &[u8],
+    from: usize,
+    line: &[u8],
+    names: &mut [Part],
+    before: Tally,
+) -> Result<Tally, Fault>
     requires small { ⌜ length (now line) < 2 ^ 32 ⌝ }
     requires place { ⌜ from < 2 ^ 32 ⌝ }
     requires lies { ⌜ Lies (now text) from (now line) ⌝ }

@@ -17,4 +17,5 @@ returns c =
       value = ap (λ (b : Bool). cond b (c .args .statements) (c .args .statements + 1)) e;
       labels = label-noted text (c .args .line .now) (c .args .from) (c .label-size .result) (c .args .labels .now) (c .args .statements) (c .pre .room) (c .pre .lies)
           (c .label-size .ensures .within) (c .label-size .ensures .value)
-        ∙ ap (λ (b : Bool). cond b before (before ++ (label (c .args .line .now) ∷ []))) e }
+          ∙ ap (λ (b : Bool). cond b before (before ++ (label (c .args .line .now) ∷ []))) e;
+    }

@@ -20,13 +20,14 @@ token-unknown-requires c κs =
 pub returns-in-Some-token-unknown : need.returns-in-Some-token-unknown
 returns-in-Some-token-unknown c =
     sym (unknown-at (map (part-of (c .args .text .now)) (take (c .args .statements) (c .args .labels .now))) (c .args .line .now) (c .loop-taken .reading) (c .loop-taken .at)
-      _ (c .loop-taken .inv .1) (c .in-Some .taken) (c .in-Some .ensures tt) (Some (c .in-Some-token-unknown .fault)) (c .in-Some-token-unknown .ensures tt))
+    _ (c .loop-taken .inv .1) (c .in-Some .taken) (c .in-Some .ensures tt) (Some (c .in-Some-token-unknown .fault)) (c .in-Some-token-unknown .ensures tt))
 
 pub loop-taken-again : need.loop-taken-again
-loop-taken-again c =
-    (c .in-Some .ensures tt .within,
-     unknown-at (map (part-of (c .args .text .now)) (take (c .args .statements) (c .args .labels .now))) (c .args .line .now) (c .loop-taken .reading) (c .loop-taken .at)
-       _ (c .loop-taken .inv .1) (c .in-Some .taken) (c .in-Some .ensures tt) None (c .in-rest-token-unknown .ensures tt))
+loop-taken-again c = (
+  c .in-Some .ensures tt .within,
+  unknown-at (map (part-of (c .args .text .now)) (take (c .args .statements) (c .args .labels .now))) (c .args .line .now) (c .loop-taken .reading) (c .loop-taken .at)
+      _ (c .loop-taken .inv .1) (c .in-Some .taken) (c .in-Some .ensures tt) None (c .in-rest-token-unknown .ensures tt),
+)
 
 pub returns : need.returns
 returns c =

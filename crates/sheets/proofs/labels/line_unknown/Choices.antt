@@ -11,7 +11,7 @@ abbrev pub Inv-loop-taken : given.InvT-loop-taken
 Inv-loop-taken l =
     (l .at ≤ length (l .line))
     × (unknown-from (map (part-of (l .text)) (take (l .statements) (l .labels))) (l .line) (tokens (l .line))
-      ≡ unknown-from (map (part-of (l .text)) (take (l .statements) (l .labels))) (l .line) (tokens-from (l .reading) (l .at) (drop (l .at) (l .line))))
+    ≡ unknown-from (map (part-of (l .text)) (take (l .statements) (l .labels))) (l .line) (tokens-from (l .reading) (l .at) (drop (l .at) (l .line))))
 
 abbrev pub μ-loop-taken : given.MeasureT-loop-taken
 μ-loop-taken l = length (l .line) - l .at

@@ -11,7 +11,7 @@ abbrev pub Inv-loop-from : given.InvT-loop-from
 Inv-loop-from l =
     (l .from ≤ length (l .text) + 1) × (l .number ≤ l .from + 1)
     × (lines-unknown (map (part-of (l .text)) (take (l .statements) (l .labels))) 1 (lines-of (l .text))
-      ≡ lines-unknown (map (part-of (l .text)) (take (l .statements) (l .labels))) (l .number) (lines-of (drop (l .from) (l .text))))
+    ≡ lines-unknown (map (part-of (l .text)) (take (l .statements) (l .labels))) (l .number) (lines-of (drop (l .from) (l .text))))
 
 abbrev pub μ-loop-from : given.MeasureT-loop-from
 μ-loop-from l = (length (l .text) + 1) - l .from

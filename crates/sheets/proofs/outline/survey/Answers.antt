@@ -43,7 +43,9 @@ returns-in-Some g c =
 
 pub returns : need.returns
 returns g c =
-    let k = c .in-Continue-carried .ensures tt in
-    (refused-label (counts (g .K·Kind .meant) (g .K·Kind .wide)) (c .args .text .now) (omega arith)
-      (carried (c .args .text .now) (c .check-lines .last .names) (c .check-lines .last .labels) (c .in-Continue-carried .carried)) (k .0) (k .1) None (is-set (c .in-Continue-carried .carried .ended) (c .if-not-carried .left)) (c .in-rest .ensures tt),
-     k .1, k .2)
+    let k = c .in-Continue-carried .ensures tt in (
+      refused-label (counts (g .K·Kind .meant) (g .K·Kind .wide)) (c .args .text .now) (omega arith)
+          (carried (c .args .text .now) (c .check-lines .last .names) (c .check-lines .last .labels) (c .in-Continue-carried .carried)) (k .0) (k .1) None (is-set (c .in-Continue-carried .carried .ended) (c .if-not-carried .left)) (c .in-rest .ensures tt),
+      k .1,
+      k .2,
+    )

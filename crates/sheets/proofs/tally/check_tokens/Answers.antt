@@ -36,33 +36,37 @@ take-token-requires g c κs =
       place = c .pre .place;
       lies = c .pre .lies;
       room = omega (arith, c .loop-taken .kept .names);
-      within = c .loop-taken .inv .1 }
+      within = c .loop-taken .inv .1;
+    }
 
 pub returns-in-Break-tally : need.returns-in-Break-tally
 returns-in-Break-tally g c =
     let p = err-from-errBy (c .from-residual .result) (c .from-residual .ensures .1) in
     rw (p .1, p .2)
     (first-here (counts (g .K·Kind .meant) (g .K·Kind .wide)) (c .args .line .now) (told (c .args .text .now) (c .loop-taken .names) (c .loop-taken .tally))
-      (c .loop-taken .reading) (c .loop-taken .at) (c .in-Some .taken) (c .in-Some .ensures tt) _ (c .in-Break-tally .field-0 .0) (ascends g (c .args .line .now) (told (c .args .text .now) (c .args .names .now) (c .args .before)) ∙ c .loop-taken .inv .2)
-      (c .in-Break-tally .ensures tt))
+    (c .loop-taken .reading) (c .loop-taken .at) (c .in-Some .taken) (c .in-Some .ensures tt) _ (c .in-Break-tally .field-0 .0) (ascends g (c .args .line .now) (told (c .args .text .now) (c .args .names .now) (c .args .before)) ∙ c .loop-taken .inv .2)
+    (c .in-Break-tally .ensures tt))
 
 pub loop-taken-again : need.loop-taken-again
 loop-taken-again g c =
     let t = c .in-Some .ensures tt in
-    let k = c .in-Continue-tally .ensures tt in
-    (t .within, k .2,
-     first-on (counts (g .K·Kind .meant) (g .K·Kind .wide)) (c .args .line .now) (told (c .args .text .now) (c .loop-taken .names) (c .loop-taken .tally))
-       (c .loop-taken .reading) (c .loop-taken .at) (c .in-Some .taken) t _ (told (c .args .text .now) (c .take-token .last .names) (c .in-Continue-tally .tally))
-       (c .loop-taken .inv .2) (k .0) (k .1),
-     count-on (counts (g .K·Kind .meant) (g .K·Kind .wide)) (c .args .line .now) (told (c .args .text .now) (c .loop-taken .names) (c .loop-taken .tally))
-       (c .loop-taken .reading) (c .loop-taken .at) (c .in-Some .taken) t _ (told (c .args .text .now) (c .take-token .last .names) (c .in-Continue-tally .tally))
-       (c .loop-taken .inv .3) (k .1))
+    let k = c .in-Continue-tally .ensures tt in (
+      t .within,
+      k .2,
+      first-on (counts (g .K·Kind .meant) (g .K·Kind .wide)) (c .args .line .now) (told (c .args .text .now) (c .loop-taken .names) (c .loop-taken .tally))
+          (c .loop-taken .reading) (c .loop-taken .at) (c .in-Some .taken) t _ (told (c .args .text .now) (c .take-token .last .names) (c .in-Continue-tally .tally))
+          (c .loop-taken .inv .2) (k .0) (k .1),
+      count-on (counts (g .K·Kind .meant) (g .K·Kind .wide)) (c .args .line .now) (told (c .args .text .now) (c .loop-taken .names) (c .loop-taken .tally))
+          (c .loop-taken .reading) (c .loop-taken .at) (c .in-Some .taken) t _ (told (c .args .text .now) (c .take-token .last .names) (c .in-Continue-tally .tally))
+          (c .loop-taken .inv .3) (k .1),
+    )
 
 pub returns : need.returns
 returns g c =
-    let e = c .in-rest .ensures tt in
-    (first-end (counts (g .K·Kind .meant) (g .K·Kind .wide)) (c .args .line .now) (told (c .args .text .now) (c .loop-taken .names) (c .loop-taken .tally))
-       (c .loop-taken .reading) (c .loop-taken .at) _ (ascends g (c .args .line .now) (told (c .args .text .now) (c .args .names .now) (c .args .before)) ∙ c .loop-taken .inv .2) e,
-     count-end (counts (g .K·Kind .meant) (g .K·Kind .wide)) (c .args .line .now) (told (c .args .text .now) (c .loop-taken .names) (c .loop-taken .tally))
-       (c .loop-taken .reading) (c .loop-taken .at) _ (c .loop-taken .inv .3) e,
-     c .loop-taken .inv .1)
+    let e = c .in-rest .ensures tt in (
+      first-end (counts (g .K·Kind .meant) (g .K·Kind .wide)) (c .args .line .now) (told (c .args .text .now) (c .loop-taken .names) (c .loop-taken .tally))
+          (c .loop-taken .reading) (c .loop-taken .at) _ (ascends g (c .args .line .now) (told (c .args .text .now) (c .args .names .now) (c .args .before)) ∙ c .loop-taken .inv .2) e,
+      count-end (counts (g .K·Kind .meant) (g .K·Kind .wide)) (c .args .line .now) (told (c .args .text .now) (c .loop-taken .names) (c .loop-taken .tally))
+          (c .loop-taken .reading) (c .loop-taken .at) _ (c .loop-taken .inv .3) e,
+      c .loop-taken .inv .1,
+    )

@@ -26,16 +26,16 @@ returns-in-Some c =
     extra-known (c .args .line .now) (c .args .text .now) (c .args .names .now) (c .args .tally) (c .args .token) (c .pre .room)
     (c .in-Some .field-0) (c .if-count-lt64 .left) (c .if-not-brings-name .ensures tt)
     (sought (c .args .line .now) (c .args .text .now) (c .args .names .now) (c .args .tally .names) (c .part-of .result .now)
-      (c .word-word .result) (word (c .args .line .now) (c .args .token)) _ (c .in-Some .ensures tt .value) (c .part-of .ensures) (c .word-word .ensures))
+    (c .word-word .result) (word (c .args .line .now) (c .args .token)) _ (c .in-Some .ensures tt .value) (c .part-of .ensures) (c .word-word .ensures))
 
 pub returns-in-None : need.returns-in-None
 returns-in-None c =
     c .fault-at .ensures
     ∙ ap (λ (p : Part). Some (fault (p .start + 1) Cause.TooMany)) (c .word-word .ensures)
     ∙ extra-new (c .args .line .now) (c .args .text .now) (c .args .names .now) (c .args .tally) (c .args .token) (c .pre .room)
-      (c .if-count-lt64 .left) (c .if-not-brings-name .ensures tt)
-      (sought (c .args .line .now) (c .args .text .now) (c .args .names .now) (c .args .tally .names) (c .part-of .result .now)
-        (c .word-word .result) (word (c .args .line .now) (c .args .token)) _ (c .in-None .ensures tt .value) (c .part-of .ensures) (c .word-word .ensures))
+    (c .if-count-lt64 .left) (c .if-not-brings-name .ensures tt)
+    (sought (c .args .line .now) (c .args .text .now) (c .args .names .now) (c .args .tally .names) (c .part-of .result .now)
+    (c .word-word .result) (word (c .args .line .now) (c .args .token)) _ (c .in-None .ensures tt .value) (c .part-of .ensures) (c .word-word .ensures))
 
 pub returns-then-count-lt64 : need.returns-then-count-lt64
 returns-then-count-lt64 c =

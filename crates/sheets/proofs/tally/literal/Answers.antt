@@ -13,7 +13,7 @@ pub add-result-in-Err : need.add-result-in-Err
 add-result-in-Err g c =
     let e₀ = c .in-Err .ensures tt in
     let l : c .in-Err .e .at ≤ contents (c .args .token) .size =
-        fault-within (g .K·Kind .meant) (g .K·Kind .wide) (c .args .line .now) (contents (c .args .token)) (c .in-Err .e)
-        (e₀ ∙ ap (λ (x : List ℕ). counted (text-read (g .K·Kind .meant) (g .K·Kind .wide) x))
-          (c .part-of .ensures ∙ ap (part-of (c .args .line .now)) (c .contents .ensures))) in
+    fault-within (g .K·Kind .meant) (g .K·Kind .wide) (c .args .line .now) (contents (c .args .token)) (c .in-Err .e)
+    (e₀ ∙ ap (λ (x : List ℕ). counted (text-read (g .K·Kind .meant) (g .K·Kind .wide) x))
+    (c .part-of .ensures ∙ ap (part-of (c .args .line .now)) (c .contents .ensures))) in
     omega (arith, l)

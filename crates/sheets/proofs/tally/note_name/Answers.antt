@@ -18,7 +18,8 @@ returns c =
     let w = word line (c .args .token) in
     record {
       names = c .note-word .ensures .words
-        ∙ ap (λ (p : Part). with-word (part-of text (record { start = c .args .from + p .start; size = p .size })) before) (c .word-word .ensures)
-        ∙ ap (λ (x : List ℕ). with-word x before) (part-lies text line (c .args .from) w (c .pre .lies) (word-within line (c .args .token) (c .pre .inside)))
-        ∙ ap (λ (b : Bool). cond b (with-word (spelling line (c .args .token)) before) before) (c .if-not-brings-name .ensures tt);
-      room = c .note-word .ensures .room }
+          ∙ ap (λ (p : Part). with-word (part-of text (record { start = c .args .from + p .start; size = p .size })) before) (c .word-word .ensures)
+          ∙ ap (λ (x : List ℕ). with-word x before) (part-lies text line (c .args .from) w (c .pre .lies) (word-within line (c .args .token) (c .pre .inside)))
+          ∙ ap (λ (b : Bool). cond b (with-word (spelling line (c .args .token)) before) before) (c .if-not-brings-name .ensures tt);
+      room = c .note-word .ensures .room;
+    }

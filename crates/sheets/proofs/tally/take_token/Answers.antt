@@ -8,7 +8,7 @@ use Rattle.sheets.proofs.tally.take_token.Needs as need
 pub add-result-3 : need.add-result-3
 add-result-3 g c =
     let l = symbols-fit (counts (g .K·Kind .meant) (g .K·Kind .wide)) (c .args .line .now) (c .args .text .now) (c .args .names .now) (c .args .tally) (c .args .token)
-        (c .in-Continue-symbols .symbols) (c .in-Continue-symbols .ensures tt) (c .pre .within) in
+    (c .in-Continue-symbols .symbols) (c .in-Continue-symbols .ensures tt) (c .pre .within) in
     omega (arith, l)
 
 pub returns : need.returns

@@ -16,9 +16,9 @@ returns g c =
     let t = c .args .token in
     let reads = counts (g .K·Kind .meant) (g .K·Kind .wide) in
     let others : c .least-fault .result ≡ least (least (first (long-name s t)) (first (ninth (n .elements) (n .operands) t))) (first (extra-name s n t)) =
-        three (c .long-name .result) (c .ninth .result) (c .extra-name .result) (c .least .result) (c .least-fault .result)
-        (first (long-name s t)) (first (ninth (n .elements) (n .operands) t)) (first (extra-name s n t))
-        (c .least .ensures) (c .least-fault .ensures) (c .long-name .ensures) (c .ninth .ensures) (c .extra-name .ensures) in
+    three (c .long-name .result) (c .ninth .result) (c .extra-name .result) (c .least .result) (c .least-fault .result)
+    (first (long-name s t)) (first (ninth (n .elements) (n .operands) t)) (first (extra-name s n t))
+    (c .least .ensures) (c .least-fault .ensures) (c .long-name .ensures) (c .ninth .ensures) (c .extra-name .ensures) in
     c .joined .ensures
     ∙ ap (λ (r : Result ℕ Fault). joined (c .least-fault .result) r) (c .literal-symbols .ensures)
     ∙ joined-answer (c .least-fault .result) (literal reads s t) (c .args .tally .symbols) t

@@ -8,6 +8,7 @@ pub mod LineLaws
 pub mod LineLoops
 pub mod Literals
 pub mod Refusals
+pub mod RowLoops
 pub mod Searches
 pub mod TokenLaws
 pub mod TokenLoops

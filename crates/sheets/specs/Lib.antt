@@ -1,4 +1,5 @@
 pub mod Causes
+pub mod Entries
 pub mod Faults
 pub mod Items
 pub mod Labels

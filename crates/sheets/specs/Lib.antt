@@ -5,5 +5,6 @@ pub mod Items
 pub mod Labels
 pub mod LineFaults
 pub mod Parts
+pub mod Rows
 pub mod Sheets
 pub mod Tallies

@@ -1,7 +1,7 @@
 // What each token of a line puts into the row of its statement.
 ghost use mathlib.Core.List.{map};
 ghost use mathlib.Core.Path.{_≡_};
-ghost use Prim.Native.Nat.{_<_, _≤_, _^_};
+ghost use Prim.Native.Nat.{_+_, _<_, _≤_, _^_};
 ghost use lib.ListN.{length};
 ghost use Rattle.sheets.specs.Entries.{digit-of, Digit, decimal, slash-at, variable-of, target-of, entry-of, name-number, reference-of, destination, with-element, with-operand, entered, blank-row, row-from, row-of, symbols-from};
 ghost use Rattle.sheets.specs.Items.{Inside};
@@ -302,9 +302,10 @@ pub(crate) fn read_row<K: Kind>(
     requires place { ⌜ from < 2 ^ 32 ⌝ }
     requires names { ⌜ length (now names) < 2 ^ 32 ⌝ }
     requires labels { ⌜ length (now labels) < 2 ^ 32 ⌝ }
-    requires symbols { ⌜ symbols ≤ 4096 ⌝ }
+    requires symbols { ⌜ symbols < 2 ^ 32 ⌝ }
     ensures row { λ r. ⌜ r .row ≡ row-of (counts (K·Kind .meant) (K·Kind .wide)) (map (part-of (now (text .entry))) (now (names .entry))) (map (part-of (now (text .entry))) (now (labels .entry))) from (now (line .entry)) symbols ⌝ }
     ensures symbols { λ r. ⌜ r .symbols ≡ symbols-from (counts (K·Kind .meant) (K·Kind .wide)) (map (part-of (now (text .entry))) (now (names .entry))) (map (part-of (now (text .entry))) (now (labels .entry))) from (now (line .entry)) symbols (tokens (now (line .entry))) ⌝ }
+    ensures few { λ r. ⌜ r .symbols ≤ symbols + length (now (line .entry)) ⌝ }
 {
     let mut row = blank_row();
     let mut stored = symbols;

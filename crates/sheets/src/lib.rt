@@ -9,3 +9,4 @@ pub mod part;
 mod reader;
 pub mod row;
 pub mod tally;
+mod writer;

@@ -24,4 +24,8 @@ loop-taken-again g c =
 pub returns : need.returns
 returns g c =
     let e = c .in-rest .ensures tt in
-    record { row = row-end (counts (g .K·Kind .meant) (g .K·Kind .wide)) (map (part-of (c .args .text .now)) (c .args .names .now)) (map (part-of (c .args .text .now)) (c .args .labels .now)) (c .args .from) (c .args .line .now) (c .loop-taken .reading) (c .loop-taken .at) (c .loop-taken .row) (c .loop-taken .stored) _ (c .loop-taken .inv .2) e; symbols = symbols-end (counts (g .K·Kind .meant) (g .K·Kind .wide)) (map (part-of (c .args .text .now)) (c .args .names .now)) (map (part-of (c .args .text .now)) (c .args .labels .now)) (c .args .from) (c .args .line .now) (c .loop-taken .reading) (c .loop-taken .at) (c .loop-taken .row) (c .loop-taken .stored) _ (c .loop-taken .inv .3) e }
+    record {
+      row = row-end (counts (g .K·Kind .meant) (g .K·Kind .wide)) (map (part-of (c .args .text .now)) (c .args .names .now)) (map (part-of (c .args .text .now)) (c .args .labels .now)) (c .args .from) (c .args .line .now) (c .loop-taken .reading) (c .loop-taken .at) (c .loop-taken .row) (c .loop-taken .stored) _ (c .loop-taken .inv .2) e;
+      symbols = symbols-end (counts (g .K·Kind .meant) (g .K·Kind .wide)) (map (part-of (c .args .text .now)) (c .args .names .now)) (map (part-of (c .args .text .now)) (c .args .labels .now)) (c .args .from) (c .args .line .now) (c .loop-taken .reading) (c .loop-taken .at) (c .loop-taken .row) (c .loop-taken .stored) _ (c .loop-taken .inv .3) e;
+      few = let l = c .loop-taken .inv .0 in let m = c .loop-taken .inv .1 in omega (arith, l, m);
+    }

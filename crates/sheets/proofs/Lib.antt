@@ -8,6 +8,8 @@ pub mod LineLaws
 pub mod LineLoops
 pub mod Literals
 pub mod Refusals
+pub mod RowLoops
+pub mod RowPuts
 pub mod Searches
 pub mod TokenLaws
 pub mod TokenLoops

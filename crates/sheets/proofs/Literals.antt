@@ -3,7 +3,7 @@ use mathlib.Core.Path.{_≡_, refl, sym, _∙_, ap, subst}
 use mathlib.Core.Bool.{Bool, true, false, cond}
 use mathlib.Core.List.{List, [], _∷_}
 use Prim.Native.Nat.{ℕ, zero, suc, _+_, _-_, _*_, _/_, _%_, _≤_, zero-le}
-use native.Mathlib.Nat.{add-mul, one-mul, div-mul-le-self, le-trans, min-le-left}
+use native.Mathlib.Nat.{add-mul, one-mul, div-mul-le-self, le-trans, min-le-left, div-le-self}
 use native.Mathlib.Numerals.{add-one}
 use native.Mathlib.Omega.{arith}
 use lib.Dec.{eqb}
@@ -24,6 +24,9 @@ no-ok x f e = let z : _≡_ {A = ℕ} 0 1 = cc in omega arith
 
 same-err : {X : Type 0} (f g : TextFault) → _≡_ {A = Result X TextFault} (Err f) (Err g) → f ≡ g
 same-err f g e = cc
+
+same-ok : {X : Type 0} (x y : X) → _≡_ {A = Result X TextFault} (Ok x) (Ok y) → x ≡ y
+same-ok x y e = cc
 
 module _ {X : Type 0} (meant : List ℕ → Option X) (wide : ℕ) where
   before-at : (at bound : ℕ) (o : Option X) (r : Result (List X) TextFault) (f : TextFault)
@@ -67,3 +70,32 @@ module _ {X : Type 0} (meant : List ℕ → Option X) (wide : ℕ) where
 
   pub counts-bounded : (c : List ℕ) (f : TextFault) → counts meant wide c ≡ Err f → f .at ≤ length c
   counts-bounded c f e = counted-at c (text-read meant wide c) f (read-at c) e
+
+  -- a text has no more symbols than characters
+  from-length : (k at : ℕ) (s : List ℕ) (xs : List X) → symbols-from meant wide k at s ≡ Ok xs → length xs ≡ k
+  unfolding symbols-from
+  from-length zero at s xs e = ap length (sym (same-ok [] xs e))
+  from-length (suc k) at s xs e = go (meant (take wide s)) (symbols-from meant wide k (at + wide) (drop wide s)) (from-length k (at + wide) (drop wide s)) e
+    where
+      go : (o : Option X) (r : Result (List X) TextFault) → ((ys : List X) → r ≡ Ok ys → length ys ≡ k) → before at o r ≡ Ok xs → length xs ≡ suc k
+      go None r h p = absurd (let z : _≡_ {A = ℕ} 0 1 = cc in omega arith)
+      go (Some x) (Ok ys) h p = ap length (sym (same-ok (x ∷ ys) xs p)) ∙ ap suc (h ys refl)
+      go (Some x) (Err f) h p = absurd (let z : _≡_ {A = ℕ} 0 1 = cc in omega arith)
+
+  counted-short : (c : List ℕ) (r : Result (List X) TextFault) (n : ℕ) → text-read meant wide c ≡ r → counted r ≡ Ok n → n ≤ length c
+  unfolding text-read
+  counted-short c (Err f) n p e = absurd (let z : _≡_ {A = ℕ} 0 1 = cc in omega arith)
+  counted-short c (Ok xs) n p e = go (eqb (length c % wide) 0) p
+    where
+      m : length xs ≡ n
+      m = let z : length xs ≡ n = cc in z
+
+      go : (b : Bool) → cond b (symbols-from meant wide (length c / wide) 0 c) (Err not-whole) ≡ Ok xs → n ≤ length c
+      go true q = subst (λ (k : ℕ). k ≤ length c) (sym (from-length (length c / wide) 0 c xs q) ∙ m) (div-le-self (length c) wide)
+      go false q = absurd (let z : _≡_ {A = ℕ} 0 1 = cc in omega arith)
+
+  pub counts-short : (s : List ℕ) (p : Part) (n : ℕ) → Ok n ≡ counts meant wide (part-of s p) → n ≤ p .size
+  unfolding part-of
+  counts-short s p n e =
+      le-trans (counted-short (part-of s p) (text-read meant wide (part-of s p)) n refl (sym e))
+      (subst (λ (k : ℕ). k ≤ p .size) (sym (length-take (p .size) (drop (p .start) s))) (min-le-left (p .size) (length (drop (p .start) s))))

@@ -114,7 +114,7 @@ fn no_statement(line: &[u8]) -> Option<Fault>
     }
 }
 
-fn labelled_end(line: &[u8]) -> bool
+pub(crate) fn labelled_end(line: &[u8]) -> bool
     ensures { λ r. ⌜ r ≡ labelled-end (now (line .entry)) ⌝ }
 {
     same_text(label(line), b"END")

@@ -1,9 +1,12 @@
 // Sheets: the faults of a sheet's text and the one that counts, names, and the checks of one line.
 pub mod check;
+mod entry;
 pub mod fault;
 pub mod item;
 mod labels;
 pub mod outline;
 pub mod part;
 mod reader;
+pub mod row;
 pub mod tally;
+mod writer;

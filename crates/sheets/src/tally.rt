@@ -87,7 +87,7 @@ fn ninth(tally: Tally, token: Token) -> Option<Fault>
 }
 
 // The symbols of a literal, 0 for any other token; a symbol fault has its column.
-fn literal<K: Kind>(kind: &K, line: &[u8], token: Token) -> Result<usize, SymbolAt>
+pub(crate) fn literal<K: Kind>(kind: &K, line: &[u8], token: Token) -> Result<usize, SymbolAt>
     requires inside { ⌜ Inside (now line) token ⌝ }
     requires small { ⌜ length (now line) < 2 ^ 32 ⌝ }
     ensures { λ r. ⌜ r ≡ placed token (literal (counts (K·Kind .meant) (K·Kind .wide)) (now (line .entry)) token) ⌝ }

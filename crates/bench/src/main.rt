@@ -1,68 +1,80 @@
-// The bench, for now: what each line of a capture is, read as log characters and as bus events.
+// The bench, for now: what each line of a capture is, read as log characters and as bus events; the first `[ID]` of each log line; and the IDs found, kept in both stores.
 mod area;
+mod finding;
+mod keeping;
 mod line;
 mod roles;
+mod survey;
 
 use crate::area::area;
+use crate::finding::Brackets;
+use crate::finding::find_id;
+use crate::keeping::keep;
+use crate::keeping::show;
 use crate::line::line_end;
-use crate::roles::count_roles;
+use crate::survey::survey;
+use packed::PackedStore;
+use packed::PackedStoreStore;
+use slots::SlotStore;
+use slots::SlotStoreStore;
 use std::error::AnyError;
 use std::io::Read;
 use symbols::bus::BusEvents;
 use symbols::bus::BusEventsKind;
-use symbols::fault::TextRefusal;
 use symbols::kind::Kind;
 use symbols::log::LogChars;
 use symbols::log::LogCharsKind;
-use symbols::text::check_text;
-use symbols::text::read_text;
+use symbols::log_char::LogChar;
 
-// Prints what one line is as symbols of a kind. An area has to be filled with something before it is read into: `blank`.
-fn survey<K: Kind>(
+const NAMES: usize = 64;
+
+const LONGEST: usize = 1024;
+
+const MOST: usize = 65536;
+
+// Both stores, and how many IDs were found.
+#[derive(Drop)]
+struct Kept<'a> {
+    slots: SlotStore<'a, LogChar>,
+    packed: PackedStore<'a, LogChar>,
+    found: usize,
+}
+
+// Prints what a line is in both kinds, and keeps the ID of a log line.
+fn take_line(
     rt: &LibcRuntime,
     number: u64,
-    name: &str,
-    kind: &K,
-    blank: K::Symbol,
     line: &[u8],
+    brackets: &Brackets,
+    kept: &mut Kept,
 ) -> Result<(), AnyError> {
-    let count = match check_text(kind, line) {
-        Ok(count) => count,
-        Err(found) => {
-            let fault = found.fault.number();
-            let column = found.at.saturating_add(1);
-            println!(rt, "{number} {name} fault {fault} column {column}")?;
-            return Ok(());
+    let symbols = survey(rt, number, "log", &LogChars, brackets.opening, line)?;
+    if let Some(symbols) = symbols {
+        if let Some(id) = find_id(rt, number, symbols.as_slice(), brackets)? {
+            kept.found = kept.found.saturating_add(1);
+            keep(rt, "slot", &mut kept.slots, kept.found, id)?;
+            keep(rt, "packed", &mut kept.packed, kept.found, id)?;
         }
-    };
-    let mut symbols = area(rt.alloc(), blank, count)?;
-    if let Err(_) = read_text(kind, line, symbols.as_mut_slice()) {
-        return Err("a line that was checked is not read".into());
     }
-    let roles = count_roles(kind, symbols.as_slice());
-    let opening = roles.opening;
-    let closing = roles.closing;
-    println!(
-        rt,
-        "{number} {name} symbols {count} opening {opening} closing {closing}"
-    )?;
+    let Ok(blank) = BusEvents.read(b"000.0000") else {
+        return Err("no bus event".into());
+    };
+    survey(rt, number, "bus", &BusEvents, blank, line)?;
     Ok(())
 }
 
-fn survey_all(rt: &LibcRuntime, text: &[u8]) -> Result<(), AnyError> {
-    let Ok(log_blank) = LogChars.read(b" ") else {
-        return Err("no log character".into());
-    };
-    let Ok(bus_blank) = BusEvents.read(b"000.0000") else {
-        return Err("no bus event".into());
-    };
+fn take_lines(
+    rt: &LibcRuntime,
+    text: &[u8],
+    brackets: &Brackets,
+    kept: &mut Kept,
+) -> Result<(), AnyError> {
     let mut number: u64 = 0;
     let mut from: usize = 0;
     while from < text.len() {
         let end = line_end(text, from);
         number = number.saturating_add(1);
-        survey(rt, number, "log", &LogChars, log_blank, &text[from..end])?;
-        survey(rt, number, "bus", &BusEvents, bus_blank, &text[from..end])?;
+        take_line(rt, number, &text[from..end], brackets, kept)?;
         if end == text.len() {
             return Ok(());
         }
@@ -71,8 +83,22 @@ fn survey_all(rt: &LibcRuntime, text: &[u8]) -> Result<(), AnyError> {
     Ok(())
 }
 
-fn main(rt: LibcRuntime) -> Result<(), AnyError> {
+fn run(rt: &LibcRuntime) -> Result<(), AnyError> {
     let mut input = Vec::new(rt.alloc());
     rt.stdin().read_to_end(&mut input)?;
-    rt.report(survey_all(&rt, input.as_slice()))
+    let brackets = Brackets::new()?;
+    let mut slot_area = area(rt.alloc(), brackets.opening, MOST)?;
+    let mut packed_area = area(rt.alloc(), brackets.opening, MOST)?;
+    let mut kept = Kept {
+        slots: SlotStore::new(slot_area.as_mut_slice(), NAMES, LONGEST),
+        packed: PackedStore::new(packed_area.as_mut_slice(), NAMES, LONGEST, MOST),
+        found: 0,
+    };
+    take_lines(rt, input.as_slice(), &brackets, &mut kept)?;
+    show(rt, "slot", &kept.slots, kept.found, brackets.opening)?;
+    show(rt, "packed", &kept.packed, kept.found, brackets.opening)
+}
+
+fn main(rt: LibcRuntime) -> Result<(), AnyError> {
+    rt.report(run(&rt))
 }

@@ -58,7 +58,7 @@ fn pass_block<K: Kind>(kind: &K, subject: &[K::Symbol], from: usize, before: usi
 }
 
 // The end of the group whose opening symbol stands before `from`: behind the symbol that closes it.
-pub fn group_end<K: Kind>(kind: &K, subject: &[K::Symbol], from: usize) -> Option<usize>
+fn group_end<K: Kind>(kind: &K, subject: &[K::Symbol], from: usize) -> Option<usize>
     requires { ⌜ 0 < from ⌝ ∗ ⌜ from ≤ length (now subject) ⌝ }
     ensures { λ r. ⌜ Next (group-end (K·Kind .acts (now (kind .entry))) (now (subject .entry)) from) (length (now (subject .entry))) from r ⌝ }
 {
@@ -86,7 +86,7 @@ pub fn group_end<K: Kind>(kind: &K, subject: &[K::Symbol], from: usize) -> Optio
 }
 
 // The first end of a balanced part that begins at `begin`: behind one plain symbol or one whole group.
-pub fn balanced<K: Kind>(kind: &K, subject: &[K::Symbol], begin: usize) -> Option<usize>
+pub(crate) fn balanced<K: Kind>(kind: &K, subject: &[K::Symbol], begin: usize) -> Option<usize>
     requires { ⌜ begin ≤ length (now subject) ⌝ }
     ensures { λ r. ⌜ Next (balanced-end (K·Kind .acts (now (kind .entry))) (now (subject .entry)) begin) (length (now (subject .entry))) (begin + 1) r ⌝ }
 {

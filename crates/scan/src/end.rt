@@ -118,7 +118,7 @@ fn next_end<K: Kind>(
 }
 
 // Lends a row to an element whose part begins at `begin`, which moves the row's end to its first one.
-pub fn enter<K: Kind>(
+pub(crate) fn enter<K: Kind>(
     row: &mut Row,
     kind: &K,
     subject: &[K::Symbol],
@@ -137,7 +137,7 @@ pub fn enter<K: Kind>(
 }
 
 // Lends a row to its element, not the last one, which moves the row's end to the next one.
-pub fn advance<K: Kind>(
+pub(crate) fn advance<K: Kind>(
     row: &mut Row,
     kind: &K,
     subject: &[K::Symbol],

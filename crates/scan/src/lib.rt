@@ -48,6 +48,8 @@ mod tests {
     use crate::element::Variable;
     use std::test::Fail;
     use std::test::check_eq;
+    use symbols::bus::BusEvents;
+    use symbols::bus::BusEventsKind;
     use symbols::log::LogChars;
     use symbols::log::LogCharsKind;
     use symbols::text::read_text;
@@ -160,6 +162,21 @@ mod tests {
         check_eq(
             told(scan_log(b"BA", b"A", &[ONE], Mode::Anchored, 1000)?),
             (0, 0, [0; 8], 1),
+        )
+    }
+
+    #[test]
+    fn events() -> Result<(), Fail> {
+        let Ok(blank) = BusEvents.read(b"000.0000") else {
+            return Err(Fail::new("no blank"));
+        };
+        let mut s = [blank; 3];
+        let Ok(_) = read_text(&BusEvents, b"7E0(10037E8.00007E8)5003", &mut s) else {
+            return Err(Fail::new("no subject"));
+        };
+        check_eq(
+            told(scan(&BusEvents, &s, &[], &[EVEN], Mode::Unanchored, 1000)),
+            (0, 1, [3, 0, 0, 0, 0, 0, 0, 0], 2),
         )
     }
 

@@ -9,7 +9,7 @@ use crate::row::Row;
 use symbols::kind::Kind;
 
 // The part that an element is compared with: one of the constants, or of the subject for a back reference; null for an element that is compared with nothing.
-pub fn compared<'a, S>(
+pub(crate) fn compared<'a, S>(
     element: Element,
     subject: &'a [S],
     constants: &'a [S],
@@ -29,7 +29,7 @@ pub fn compared<'a, S>(
 }
 
 // Whether two parts are equal.
-pub fn equal<K: Kind>(kind: &K, a: &[K::Symbol], b: &[K::Symbol]) -> bool
+pub(crate) fn equal<K: Kind>(kind: &K, a: &[K::Symbol], b: &[K::Symbol]) -> bool
     ensures { λ r. ⌜ r ≡ same-parts (K·Kind .equal) (now (a .entry)) (now (b .entry)) ⌝ }
 {
     let n = a.len();

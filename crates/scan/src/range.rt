@@ -32,7 +32,7 @@ fn elements_fit(constants: usize, elements: &[Element]) -> bool
 }
 
 // Whether a scan can be made.
-pub fn in_range(constants: usize, elements: &[Element], allowance: usize) -> bool
+pub(crate) fn in_range(constants: usize, elements: &[Element], allowance: usize) -> bool
     ensures { λ r. ⌜ r ≡ in-range constants (now (elements .entry)) allowance ⌝ }
 {
     1 <= elements.len()

@@ -10,7 +10,7 @@ pub struct Row {
 
 impl Row {
     // Puts the part at a new beginning, and its end where one was found.
-    pub fn enter(&mut self, begin: usize, end: Option<usize>)
+    pub(crate) fn enter(&mut self, begin: usize, end: Option<usize>)
         ensures { λ _. ⌜ now (self .exit) ≡ entered (now (self .entry)) begin end ⌝ }
     {
         self.begin = begin;
@@ -20,7 +20,7 @@ impl Row {
     }
 
     // Moves the end on, where another one was found.
-    pub fn advance(&mut self, end: Option<usize>)
+    pub(crate) fn advance(&mut self, end: Option<usize>)
         ensures { λ _. ⌜ now (self .exit) ≡ advanced (now (self .entry)) end ⌝ }
     {
         if let Some(e) = end {

@@ -130,7 +130,7 @@ fn no_start(skipped: usize, left: usize, allowance: usize) -> Result<Scanned, Sc
 }
 
 // Tries each start with so many trials. Those at which the first constant cannot begin are passed over, and count as a trial each.
-pub fn starts<K: Kind>(
+pub(crate) fn starts<K: Kind>(
     kind: &K,
     subject: &[K::Symbol],
     constants: &[K::Symbol],

@@ -12,7 +12,7 @@ pub enum Move {
 }
 
 // The move: `last` says whether the scan stands at the last element, `left` how many trials it has, `end` what the element found.
-pub fn step(last: bool, left: usize, end: Option<usize>) -> Move
+pub(crate) fn step(last: bool, left: usize, end: Option<usize>) -> Move
     ensures { λ r. ⌜ r ≡ course last left end ⌝ }
 {
     match (end, last) {

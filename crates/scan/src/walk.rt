@@ -62,7 +62,7 @@ fn retreat<K: Kind>(
 }
 
 // Walks from one start, with so many trials left.
-pub fn from_start<K: Kind>(
+pub(crate) fn from_start<K: Kind>(
     rows: &mut [Row; 8],
     start: usize,
     trials: usize,

@@ -1,6 +1,6 @@
 use Prim.Native.Nat.{_-_, _≤_}
 use lib.ListN.{length}
-use Rattle.bench.proofs.survey_all.Given as given
+use Rattle.bench.proofs.take_lines.Given as given
 
 abbrev pub Inv-loop-from : given.InvT-loop-from
 Inv-loop-from l = l .from ≤ length (l .text)

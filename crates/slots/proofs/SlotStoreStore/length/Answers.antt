@@ -1,0 +1,7 @@
+use Rattle.stores.proofs.Parts.{lies-length}
+use Rattle.slots.proofs.SlotStoreStore.length.Needs as need
+
+pub returns : need.returns
+returns g c =
+    let lies = c .in-Continue-part .ensures tt .lies in
+    rw (lies .accepts, lies-length _ _ _ _ lies)

@@ -1,0 +1,10 @@
+pub mod After
+pub mod Ends
+pub mod Grammar
+pub mod Languages
+pub mod Lines
+pub mod Marks
+pub mod NameForm
+pub mod Next
+pub mod Roles
+pub mod Tokens

@@ -1,0 +1,13 @@
+pub mod Ascents
+pub mod Codes
+pub mod Cuts
+pub mod Extras
+pub mod Firsts
+pub mod LabelLoops
+pub mod LineLaws
+pub mod LineLoops
+pub mod Literals
+pub mod Refusals
+pub mod Searches
+pub mod TokenLaws
+pub mod TokenLoops

@@ -16,7 +16,7 @@ use Rattle.symbols.specs.declared.role.Role.{Role}
 use Rattle.symbols.specs.declared.role.Role.the-variants.{Opening, Closing, Plain}
 use Rattle.placings.specs.Pattern.{part}
 use Rattle.placings.specs.Enumeration.{after, closes-from, balanced-test}
-use Rattle.scan.specs.Ends.{Next, balanced-end}
+use Rattle.scan.specs.Ends.{Next, balanced-end, group-end}
 use Rattle.scan.proofs.Parts.{length-part, part-none, part-more, next-like, next-from}
 
 -- how many are open after a symbol of a role, where d were
@@ -50,10 +50,6 @@ closing-is Closing p o = refl
 closing-is Plain p o = absurd (p refl)
 
 module _ {A : Type 0} (role : A → Role) (s : List A) (a : ℕ) where
-  -- the group that is open before a can be closed by the part from a to k
-  abbrev pub group-end : ℕ → Bool
-  group-end k = leb a k && closes-from role (part s a k) 1
-
   -- at e, with d open, none of which was the last: no end so far
   pub record Walk (e d : ℕ) : Type 0 where
     pub from : a ≤ e
@@ -61,7 +57,7 @@ module _ {A : Type 0} (role : A → Role) (s : List A) (a : ℕ) where
     pub some : 0 < d
     pub few : d ≤ e
     pub same : (k : ℕ) → e ≤ k → k ≤ length s → closes-from role (part s a k) 1 ≡ closes-from role (part s e k) d
-    pub none : (k : ℕ) → a ≤ k → k ≤ e → group-end k ≡ false
+    pub none : (k : ℕ) → a ≤ k → k ≤ e → group-end role s a k ≡ false
 
   pub walk-none : 0 < a → a ≤ length s → Walk a 1
   walk-none z l =
@@ -93,12 +89,12 @@ module _ {A : Type 0} (role : A → Role) (s : List A) (a : ℕ) where
         none = λ k l n. ⊎-elim (λ b. w .none k l (omega arith)) (λ b. let z : e + 1 ≡ k = omega arith in rw (← z) (and-right (leb a (e + 1)) _ (at-more e d o x h is m w ∙ ne-eqb o 0 (λ q. omega arith)))) (cases-lt k (e + 1));
       }
 
-  pub walk-found : (e d o : ℕ) (x : A) → e < length s → x ≡ getD s e x → Moves (role x) d o → Walk e d → o ≡ 0 → Next group-end (length s) a (Some (e + 1))
+  pub walk-found : (e d o : ℕ) (x : A) → e < length s → x ≡ getD s e x → Moves (role x) d o → Walk e d → o ≡ 0 → Next (group-end role s a) (length s) a (Some (e + 1))
   walk-found e d o x h is m w z =
       let f = w .from in
       (omega arith, omega arith, and-from (leb a (e + 1)) _ (le-leb a (e + 1) (omega arith)) (at-more e d o x h is m w ∙ eq-eqb o 0 z), λ k u v. w .none k u (omega arith))
 
-  pub walk-all : (e d : ℕ) → length s ≤ e → Walk e d → Next group-end (length s) a None
+  pub walk-all : (e d : ℕ) → length s ≤ e → Walk e d → Next (group-end role s a) (length s) a None
   walk-all e d l w = λ k u n. w .none k u (omega arith)
 
   -- a part that begins with a symbol, beyond it

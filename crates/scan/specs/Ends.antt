@@ -2,14 +2,14 @@
 use mathlib.Core.Path.{_≡_}
 use mathlib.Core.List.{List}
 use mathlib.Core.Bool.{Bool, true, false, _&&_, _||_, not}
-use Prim.Native.Nat.{ℕ, _+_, _<_, _≤_}
+use Prim.Native.Nat.{ℕ, _+_, _-_, _<_, _≤_}
 use lib.ListN.{length}
 use lib.Dec.{eqb, leb}
 use Rattle.std.specs.declared.option.Option.{Option}
 use Rattle.std.specs.declared.option.Option.the-variants.{Some, None}
 use Rattle.symbols.specs.declared.role.Role.{Role}
-use Rattle.placings.specs.Pattern.{part}
-use Rattle.placings.specs.Enumeration.{same-parts, balanced-test}
+use Rattle.placings.specs.Pattern.{part, openings, closings}
+use Rattle.placings.specs.Enumeration.{same-parts, closes-from, balanced-test}
 use Rattle.scan.specs.declared.element.Element.{Element}
 use Rattle.scan.specs.declared.element.Element.the-variants.{Compared, Fixed, Free}
 use Rattle.scan.specs.declared.element.Variable.{Variable}
@@ -31,6 +31,14 @@ fixed-end s size a k = leb a k && eqb (length (part s a k)) size
 -- any part that begins at a can end at k; as the last element's it ends where the subject does
 abbrev pub arbitrary-end : {A : Type 0} → List A → Bool → ℕ → ℕ → Bool
 arbitrary-end s last a k = leb a k && (not last || eqb k (length s))
+
+-- how many are open behind a part, where d were before it and more than it can close
+abbrev pub open-behind : {A : Type 0} → (A → Role) → List A → ℕ → ℕ
+open-behind role xs d = d + openings role xs - closings role xs
+
+-- the part from a to k closes the one group that is open before it, and nothing else that is not open
+abbrev pub group-end : {A : Type 0} → (A → Role) → List A → ℕ → ℕ → Bool
+group-end role s a k = leb a k && closes-from role (part s a k) 1
 
 -- a balanced part that begins at a can end at k
 abbrev pub balanced-end : {A : Type 0} → (A → Role) → List A → ℕ → ℕ → Bool

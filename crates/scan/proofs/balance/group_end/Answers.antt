@@ -1,11 +1,12 @@
 use native.Mathlib.Omega.{arith}
-use mathlib.Core.Path.{refl, sym, _∙_}
+use mathlib.Core.Path.{refl, sym, subst, _∙_}
 use borrow.Author.Needs.{needs}
 use lib.ListN.{length}
 use Prim.Native.Nat.{_<_, _≤_, _+_, _-_}
 use Rattle.symbols.specs.declared.role.Role.the-variants.{Opening, Closing, Plain}
-use Rattle.scan.proofs.Walks.{moves-by, plain-is, walk-none, walk-more, walk-found, walk-all}
-use Rattle.scan.proofs.balance.closed.Needs as need
+use Rattle.scan.proofs.Blocks.{walk-far}
+use Rattle.scan.proofs.Walks.{Walk, moves-by, plain-is, walk-none, walk-more, walk-found, walk-all}
+use Rattle.scan.proofs.balance.group_end.Needs as need
 
 pub loop-e-holds : need.loop-e-holds
 loop-e-holds g c = walk-none _ _ _ (omega arith) (omega arith)
@@ -36,3 +37,9 @@ loop-e-again g c =
 
 pub returns : need.returns
 returns g c = walk-all _ _ _ _ _ (c .loop-e-test .left) (c .loop-e .inv)
+
+pub loop-e-again-then-n-e-ge-BLOCK : need.loop-e-again-then-n-e-ge-BLOCK
+loop-e-again-then-n-e-ge-BLOCK g c =
+    let role = g .K·Kind .acts (c .args .kind .now) in
+    let s = c .args .subject .now in
+    subst (Walk role s (c .args .from) (c .loop-e .e + 64)) (sym (c .pass-block-open .ensures)) (walk-far role s (c .args .from) (c .loop-e .e) (c .loop-e .open) 64 (c .if-open-gt-BLOCK .taken) (omega arith) (c .loop-e .inv))

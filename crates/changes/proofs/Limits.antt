@@ -8,9 +8,13 @@ use lib.Dec.{ltb}
 use lib.ListN.{length, getD, drop}
 use Rattle.std.proofs.shelf.Lists.{drop-more, drop-all}
 use Rattle.std.proofs.shelf.Tests.{or-parts, or-left, or-right, or-from, ltb-false, lt-ltb, le-ltb}
-use Rattle.stores.specs.Names.{Names, size, under}
+use Rattle.stores.specs.declared.limits.Limits.{Limits}
+use Rattle.stores.specs.Names.{Names, size, limits, under}
 use Rattle.stores.proofs.Calls.{under-is}
+use Rattle.changes.specs.Success.{Success}
 use Rattle.changes.specs.Limits.{over-longest, over-limits}
+use Rattle.changes.specs.Written.{written}
+use Rattle.changes.proofs.Written.{written-length, written-limits}
 
 longest-at : {X : Type 0} (l : ℕ) (ss : List (List X)) (i : ℕ) → over-longest l ss ≡ false → length (getD ss i []) ≤ l
 unfolding over-longest
@@ -59,3 +63,17 @@ unfolding over-limits over-longest
 over-none names i sum h most all rest =
     let none = drop-all i (names .strings) h in
     sym (or-from _ _ (sym rest ∙ ap (over-longest (names .longest)) none) (le-ltb (names .most) (size (names .strings)) (omega (arith, ap size none))))
+
+-- what a store tells of itself holds after the writes too
+pub record Limited {X : Type 0} (l : Limits) (names : Names X) : Type 0 where
+  pub count : l .names ≡ length (names .strings)
+  pub longest : l .longest ≡ names .longest
+  pub most : l .most ≡ names .most
+
+pub limited : {X : Type 0} (success : Success X) (names : Names X) (l : Limits) → l ≡ limits names → Limited l (written success names)
+limited success names l e =
+    record {
+      count = ap (λ (j : Limits). j .names) e ∙ sym (written-length success names);
+      longest = ap (λ (j : Limits). j .longest) e ∙ sym (ap (λ m. m .longest) (written-limits success names));
+      most = ap (λ (j : Limits). j .most) e ∙ sym (ap (λ m. m .most) (written-limits success names));
+    }

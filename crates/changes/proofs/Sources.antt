@@ -8,22 +8,26 @@ use Rattle.std.proofs.shelf.Lists.{drop-more, drop-all}
 use Rattle.tables.specs.declared.row.Item.{Item}
 use Rattle.changes.specs.declared.source.Source.{Source}
 use Rattle.changes.specs.declared.source.Source.the-variants.{Kept, Part, Contents}
-use Rattle.changes.specs.Sources.{is-variable, later, last-part}
+use Rattle.changes.specs.Sources.{is-variable, later, last-part, Cuts}
 
-later-cond : (s found : Source) (a b : ℕ) (t : Bool) → later (later s (cond t (Part a b) Kept)) found ≡ later s (cond t (Part a b) found)
-later-cond Kept found a b true = refl
-later-cond Kept found a b false = refl
-later-cond (Part x y) found a b t = refl
-later-cond Contents found a b t = refl
+later-later : (s t found : Source) → later (later s t) found ≡ later s (later t found)
+later-later Kept t found = refl
+later-later (Part x y) t found = refl
+later-later Contents t found = refl
 
 -- the first of the elements still to come
 pub last-more : (k from i : ℕ) (is : List Item) (es : List ℕ) (d : Item) (found : Source) → i < length is → i < length es
-    → later (last-part k from (drop i is) (drop i es)) found ≡ later (last-part k (getD es i 0) (drop (i + 1) is) (drop (i + 1) es)) (cond (is-variable k (getD is i d)) (Part from (getD es i 0)) found)
+    → later (last-part k from (drop i is) (drop i es)) found ≡ later (last-part k (getD es i 0) (drop (i + 1) is) (drop (i + 1) es)) (later (cond (is-variable k (getD is i d)) (Part from (getD es i 0)) Kept) found)
 unfolding last-part
 last-more k from i is es d found lt lt′ =
     ap (λ xs. later (last-part k from xs (drop i es)) found) (drop-more is i d lt)
     ∙ ap (λ ys. later (last-part k from (getD is i d ∷ drop (i + 1) is) ys) found) (drop-more es i 0 lt′)
-    ∙ later-cond (last-part k (getD es i 0) (drop (i + 1) is) (drop (i + 1) es)) found from (getD es i 0) (is-variable k (getD is i d))
+    ∙ later-later (last-part k (getD es i 0) (drop (i + 1) is) (drop (i + 1) es)) (cond (is-variable k (getD is i d)) (Part from (getD es i 0)) Kept) found
+
+-- what was found so far lies within the subject
+pub cuts-later : (n from to : ℕ) (b : Bool) (found : Source) → from ≤ to → to ≤ n → Cuts n found → Cuts n (later (cond b (Part from to) Kept) found)
+cuts-later n from to true found h k cuts = (h, k)
+cuts-later n from to false found h k cuts = cuts
 
 -- no element is left
 pub last-all : (k from i : ℕ) (is : List Item) (es : List ℕ) (found : Source) → length is ≤ i → later (last-part k from (drop i is) (drop i es)) found ≡ found

@@ -1,8 +1,10 @@
 // Where the string of a name comes from after a success.
+ghost use mathlib.Core.Bool.{cond};
 ghost use mathlib.Core.Path.{_≡_};
 ghost use lib.ListN.{length};
 ghost use Rattle.changes.specs.Success.{told, Placed};
-ghost use Rattle.changes.specs.Sources.{is-variable, is-reference, last-part, source, Cuts};
+ghost use Rattle.changes.specs.Sources.{is-variable, later, is-reference, last-part, source, Cuts};
+ghost use Rattle.changes.specs.declared.source.Source.the-variants.{Kept, Part};
 use crate::success::Success;
 use tables::row::Item;
 
@@ -32,6 +34,26 @@ fn is_reference(reference: Option<usize>, name: usize) -> bool
     }
 }
 
+// The part of an element, where it is a variable of a name.
+fn part_taken(item: Item, name: usize, from: usize, to: usize) -> Source
+    ensures { λ r. ⌜ r ≡ cond (is-variable name item) (Part from to) Kept ⌝ }
+{
+    if is_variable(item, name) {
+        return Source::Part(from, to);
+    }
+    Source::Kept
+}
+
+// A source, or the one before it where it is kept.
+fn later(source: Source, before: Source) -> Source
+    ensures { λ r. ⌜ r ≡ later source before ⌝ }
+{
+    match source {
+        Source::Kept => before,
+        _ => source,
+    }
+}
+
 // The part of the last variable of a name.
 fn last_part<T: Copy>(success: Success<T>, name: usize) -> Source
     requires { ⌜ Placed (told success) ⌝ }
@@ -42,9 +64,8 @@ fn last_part<T: Copy>(success: Success<T>, name: usize) -> Source
     let mut from = success.start;
     for i in 0..success.items.len() {
         let to = success.ends[i];
-        if is_variable(success.items[i], name) {
-            found = Source::Part(from, to);
-        }
+        let here = part_taken(success.items[i], name, from, to);
+        found = later(here, found);
         from = to;
     }
     found

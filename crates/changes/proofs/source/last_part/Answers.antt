@@ -1,16 +1,13 @@
-use mathlib.Core.Bool.{cond}
 use mathlib.Core.Path.{_≡_, sym, ap, subst, _∙_}
 use Prim.Native.Nat.{ℕ, suc, _+_, _<_}
 use native.Mathlib.Numerals.{add-one}
 use native.Mathlib.Omega.{arith}
 use lib.ListN.{length, getD, drop}
 use Rattle.changes.specs.declared.source.Source.{Source}
-use Rattle.changes.specs.declared.source.Source.the-variants.{Part}
 use Rattle.changes.specs.Sources.{later, last-part, Cuts}
 use Rattle.changes.specs.Success.{told, places}
-use Rattle.changes.proofs.Sources.{last-more, last-all}
+use Rattle.changes.proofs.Sources.{last-more, last-all, cuts-later}
 use Rattle.changes.proofs.source.last_part.Needs as need
-use Rattle.changes.proofs.source.last_part.Needs.{then-is-variable, else-is-variable}
 
 pub loop-i-again : need.loop-i-again
 loop-i-again g c =
@@ -20,14 +17,13 @@ loop-i-again g c =
     let first = c .loop-i .inv .0 in
     let rise = c .pre .rising i (omega arith) in
     let inside = c .pre .within (suc i) (omega arith) in
+    let found = c .later-found .ensures ∙ ap (λ s. later s (c .loop-i .found)) (c .part-taken-here .ensures) in
     let more = last-more (c .args .name) (c .loop-i .from) i (success .items .now) (success .ends .now) _ (c .loop-i .found) (c .loop-i-test .taken) lt in
-    let next = sym (ap (λ n. getD (places (told success)) n 0) (add-one i)) in
-    let rest = λ (found : Source). later (last-part (c .args .name) (getD (success .ends .now) i 0) (drop (i + 1) (success .items .now)) (drop (i + 1) (success .ends .now))) found in
-    let new = Part (c .loop-i .from) (getD (success .ends .now) i 0) in
-    elim (c .if-is-variable .came) [
-      | then-is-variable w ↦ (next, subst (Cuts (length (success .subject .now))) (sym (w .found-is)) (omega arith, inside), ap rest (w .found-is ∙ ap (λ b. cond b new (c .loop-i .found)) (sym (w .if-is-variable .taken) ∙ c .is-variable .ensures)) ∙ sym more ∙ c .loop-i .inv .2)
-      | else-is-variable w ↦ (next, subst (Cuts (length (success .subject .now))) (sym (w .found-is)) (c .loop-i .inv .1), ap rest (w .found-is ∙ ap (λ b. cond b new (c .loop-i .found)) (sym (w .if-is-variable .left) ∙ c .is-variable .ensures)) ∙ sym more ∙ c .loop-i .inv .2)
-    ]
+    let rest = λ (s : Source). later (last-part (c .args .name) (getD (success .ends .now) i 0) (drop (i + 1) (success .items .now)) (drop (i + 1) (success .ends .now))) s in (
+      sym (ap (λ n. getD (places (told success)) n 0) (add-one i)),
+      subst (Cuts (length (success .subject .now))) (sym found) (cuts-later (length (success .subject .now)) (c .loop-i .from) (getD (success .ends .now) i 0) _ (c .loop-i .found) (omega arith) inside (c .loop-i .inv .1)),
+      ap rest found ∙ sym more ∙ c .loop-i .inv .2,
+    )
 
 pub returns : need.returns
 returns g c =

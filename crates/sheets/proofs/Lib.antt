@@ -8,6 +8,7 @@ pub mod LineLaws
 pub mod LineLoops
 pub mod Literals
 pub mod Refusals
+pub mod RowCounts
 pub mod RowLoops
 pub mod RowPuts
 pub mod Searches

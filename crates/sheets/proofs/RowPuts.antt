@@ -30,14 +30,14 @@ put-none (suc n) [] = refl
 put-none (suc n) (x ∷ a) = ap (λ (r : List _). x ∷ r) (put-none n a)
 
 -- one row, or none
-abbrev one-or-none : Bool → ℕ
+abbrev pub one-or-none : Bool → ℕ
 one-or-none b = cond b 1 0
 
 pub at-most-one : (b : Bool) (n : ℕ) → cond b (n + 1) n ≤ n + 1
 at-most-one true n = omega arith
 at-most-one false n = omega arith
 
-length-front : (b : Bool) (r : Row) (rs : List Row) → length (in-front b r rs) ≡ one-or-none b + length rs
+pub length-front : (b : Bool) (r : Row) (rs : List Row) → length (in-front b r rs) ≡ one-or-none b + length rs
 length-front true r rs = omega arith
 length-front false r rs = omega arith
 

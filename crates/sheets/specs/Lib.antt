@@ -7,4 +7,5 @@ pub mod LineFaults
 pub mod Parts
 pub mod Rows
 pub mod Sheets
+pub mod Table
 pub mod Tallies

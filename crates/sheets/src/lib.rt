@@ -1,4 +1,4 @@
-// Sheets: the faults of a sheet's text and the one that counts, names, and the checks of one line.
+// Sheets: the reader of statements, the one refusal that counts, and the tables of a sheet.
 pub mod check;
 mod entry;
 pub mod fault;
@@ -8,5 +8,6 @@ pub mod outline;
 pub mod part;
 mod reader;
 pub mod row;
+pub mod table;
 pub mod tally;
 mod writer;

@@ -1,4 +1,4 @@
-use mathlib.Core.Path.{_≡_, refl, _∙_}
+use mathlib.Core.Path.{refl, _∙_}
 use Rattle.placings.specs.Pattern.{part}
 use Rattle.changes.specs.Success.{told}
 use Rattle.changes.proofs.Fetches.{fetch-outside, fetch-source, fetch-kept}

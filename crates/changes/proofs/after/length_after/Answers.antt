@@ -1,8 +1,7 @@
-use mathlib.Core.Path.{_≡_, refl, sym, ap, _∙_}
+use mathlib.Core.Path.{_≡_, sym, ap, _∙_}
 use Prim.Native.Nat.{ℕ}
 use native.Mathlib.Omega.{arith}
 use lib.ListN.{length}
-use Rattle.std.specs.declared.result.Result.the-variants.{Ok, Err}
 use Rattle.changes.specs.Success.{told}
 use Rattle.changes.proofs.Fetches.{in-number, length-part}
 use Rattle.changes.proofs.Written.{source-under}

@@ -1,4 +1,4 @@
-use mathlib.Core.Path.{_≡_, ap, subst, sym}
+use mathlib.Core.Path.{subst, sym}
 use Rattle.changes.specs.Success.{told}
 use Rattle.changes.specs.Sources.{OneSource}
 use Rattle.changes.proofs.Written.{one-source}

@@ -1,4 +1,6 @@
 // The bench, for now: what each line of a capture is, read as log characters and as bus events; the first `[ID]` of each log line; and the IDs found, kept in both stores.
+#![tactic(auto)]
+
 mod area;
 mod finding;
 mod keeping;

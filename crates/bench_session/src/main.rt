@@ -1,4 +1,6 @@
 // The bench: reads a sheet and a line of log characters, carries the sheet out over the line, and prints the record and the names.
+#![tactic(auto)]
+
 mod area;
 mod input;
 mod show;

@@ -1,4 +1,6 @@
 // The constants of a sheet: the symbols of its literals, one behind the other.
+#![tactic(auto)]
+
 ghost use Rattle.std.specs.Prelude.{◌≡◌, ◌^◌, ◌<◌, ◌≤◌, length};
 ghost use Rattle.symbols.specs.Answers.{over};
 ghost use Rattle.sheets.specs.Items.{Inside};

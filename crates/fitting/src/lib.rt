@@ -1,2 +1,4 @@
 // That the tables of a loaded sheet pass the check of tables.
+#![tactic(auto)]
+
 pub mod theorems;

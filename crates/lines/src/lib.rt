@@ -1,4 +1,6 @@
 // One line of a sheet: which lines are statement lines, how far a line goes as one does, and its tokens.
+#![tactic(auto)]
+
 pub mod line;
 pub mod mark;
 pub mod reading;

@@ -1,4 +1,6 @@
 // Load: the tables of a sheet, written from its text.
+#![tactic(auto)]
+
 ghost use Rattle.std.specs.Prelude.{◌≡◌, [], length};
 ghost use Rattle.constants.specs.Constants.{sheet_symbols};
 ghost use Rattle.load.specs.Rows.{row_of};

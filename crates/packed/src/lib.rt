@@ -1,4 +1,6 @@
 // The packed store: strings back to back at the front of one lent area.
+#![tactic(auto)]
+
 ghost use Rattle.std.specs.Prelude.{◌≡◌, ℕ, ◌+◌, ◌-◌, ◌<◌, ◌≤◌, length, take, drop, sum, slice_index_or};
 ghost use Rattle.symbols.specs.Answers.{over};
 ghost use Rattle.stores.specs.Ranges.{new_names};

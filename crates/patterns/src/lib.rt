@@ -1,4 +1,6 @@
 // The pattern of a statement, as a scan takes it.
+#![tactic(auto)]
+
 mod constant;
 mod element;
 pub mod gather;

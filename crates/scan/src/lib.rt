@@ -1,4 +1,6 @@
 // The scan: the engine that places a pattern in a subject.
+#![tactic(auto)]
+
 ghost use Rattle.std.specs.Prelude.{◌≡◌};
 ghost use Rattle.scan.specs.Answers.{scan_answer, AnswerSays};
 ghost use Rattle.scan.specs.Elements.{pattern};

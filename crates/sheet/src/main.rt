@@ -1,4 +1,6 @@
 // Shows whether a sheet is accepted: its counts, or its refusal the way people like to see it.
+#![tactic(auto)]
+
 use anyhow::anyhow;
 use sheets::fault::{Cause, Refusal};
 use sheets::outline::{Outline, survey};

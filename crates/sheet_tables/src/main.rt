@@ -1,4 +1,6 @@
 // Loads sheets and shows what comes of each: its tables, or its refusal the way people like to see it.
+#![tactic(auto)]
+
 mod listing;
 mod refusal;
 

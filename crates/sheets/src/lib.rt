@@ -1,4 +1,6 @@
 // Sheets: the reader of statements, the one refusal that counts, and the tables of a sheet.
+#![tactic(auto)]
+
 pub mod check;
 mod entry;
 pub mod fault;

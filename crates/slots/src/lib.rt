@@ -1,4 +1,6 @@
 // The slot store: strings in slots of one width, in one lent area.
+#![tactic(auto)]
+
 ghost use Rattle.std.specs.Prelude.{◌≡◌, ◌+◌, ◌-◌, ◌*◌, ◌≤◌, length, take, drop};
 ghost use Rattle.symbols.specs.Answers.{answered, over};
 ghost use Rattle.stores.specs.Ranges.{in_range, check_refusal, new_names};

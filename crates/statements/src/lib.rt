@@ -1,4 +1,6 @@
 // Carrying out a statement: its string reference is scanned, and the verdict decides what is written and which statement is next.
+#![tactic(auto)]
+
 pub mod carry;
 mod goto;
 pub mod listing;

@@ -1,4 +1,6 @@
 // Stores: the interface of a store of numbered strings, what every store means, and lists of puts.
+#![tactic(auto)]
+
 pub mod limits;
 pub mod part;
 pub mod put;

@@ -1,4 +1,6 @@
 // Symbols: what a string is made of, the interface of a kind of symbols, and the two kinds of the bench.
+#![tactic(auto)]
+
 pub mod bus;
 pub mod bus_event;
 pub mod fault;

@@ -1,4 +1,6 @@
 // The tables of a sheet: its statements as rows, its names, and where it starts; looking up names and labels.
+#![tactic(auto)]
+
 pub mod lookup;
 pub mod name;
 pub mod row;

@@ -1,7 +1,6 @@
 -- What each name has after a success: the string of its one source. Assumes nothing.
-use Rattle.std.proofs.Common.{◌≡◌, ℕ, zero, suc, ◌-◌, ◌<◌, Bool, true, false, cond, eqb, ◌≢◌, List, [], ◌∷◌, length, get_or, set, Some, None, Option, sym, refl, ap, ◌∙◌, ⊎_elim, arith}
-use Rattle.std.proofs.lemmas.List.{length-set, get_or-set_same, get_or-set_other}
-use Rattle.std.proofs.lemmas.Bool.{cases_eq, eq-eqb, ne_eqb}
+use Rattle.std.proofs.Common.{◌≡◌, ℕ, ◌-◌, Bool, true, false, cond, eqb, List, [], ◌∷◌, length, Some, None, Option, sym, refl, ap, ◌∙◌, arith}
+use Rattle.std.proofs.lemmas.List.{length-set}
 use Rattle.std.specs.List.{AllByRecursion as All}
 use Rattle.placings.specs.Pattern.{part}
 use Rattle.stores.specs.Names.{Names, under, with_string}
@@ -11,7 +10,7 @@ use Rattle.tables.specs.declared.row.Item.{Item}
 use Rattle.tables.specs.declared.row.Item.TheVariants.{Operand, Variable}
 use Rattle.changes.specs.declared.source.Source.{Source}
 use Rattle.changes.specs.declared.source.Source.TheVariants.{Kept, Part, Contents}
-use Rattle.changes.specs.Success.{Success, In, Numbered, Referred, Sound}
+use Rattle.changes.specs.Success.{Success, Numbered, Referred, Sound}
 use Rattle.changes.specs.Sources.{is_variable, later, last_part, is_reference, source, value, OneSource}
 use Rattle.changes.specs.Passes.{with_strings}
 use Rattle.changes.specs.Written.{takes, named, renewed, written}

@@ -1,11 +1,11 @@
 -- The law of tokens. Assumes nothing.
-use Rattle.std.proofs.Common.{◌≡◌, ℕ, suc, ◌+◌, ◌<◌, ◌≤◌, Bool, true, false, cond, List, [], ◌∷◌, ◌++◌, map, length, replicate, Some, None, Option, sym, refl, ap, ◌∙◌, subst, add_assoc, add-suc, add-one, one-add, arith}
+use Rattle.std.proofs.Common.{◌≡◌, ℕ, suc, ◌+◌, ◌<◌, Bool, true, false, cond, List, [], ◌∷◌, ◌++◌, length, replicate, Some, None, Option, sym, refl, ap, ◌∙◌, subst, add_assoc, one-add, arith}
 use Rattle.lines.specs.declared.reading.Reading.{Reading}
 use Rattle.lines.specs.declared.role.Role.{Role}
 use Rattle.lines.specs.declared.token.Token.{Token}
 use Rattle.lines.specs.Marks.{mark_of}
 use Rattle.lines.specs.Languages.{Lang, In}
-use Rattle.lines.specs.After.{holds_null, after, after_all}
+use Rattle.lines.specs.After.{holds_null, after_all}
 use Rattle.lines.specs.Grammar.{Character, tinted, line}
 use Rattle.lines.specs.Next.{beginning, next}
 use Rattle.lines.specs.Roles.{same_role, role_of, roles, roles_from, on_roles}

@@ -6,8 +6,8 @@ use Rattle.lines.specs.declared.mark.Mark.TheVariants.{Blank, LetterE, LetterN, 
 use Rattle.lines.specs.Marks.{mark_of, same, num}
 use Rattle.lines.specs.Languages.{Lang, none}
 use Rattle.lines.specs.After.{holds_null, is_none, seq, alt, less, after, after_all}
-use Rattle.lines.specs.Grammar.{plain, line, statement, ending}
-use Rattle.lines.specs.Ends.{begins, begins_end}
+use Rattle.lines.specs.Grammar.{plain, line, ending}
+use Rattle.lines.specs.Ends.{begins_end}
 use Rattle.lines.specs.Lines.{is_statement, is_end}
 use Rattle.lines.proofs.Follows.{and_left, and_right}
 use Rattle.lines.proofs.Steps.{AllMarks, at}

@@ -1,7 +1,7 @@
 -- `after` is what may follow. Assumes nothing.
 use Rattle.std.proofs.Common.{◌≡◌, ℕ, Bool, true, false, cond, not, ◌&&◌, ◌||◌, ◌⊎◌, ◌↔◌, List, [], ◌∷◌, ◌++◌, sym, refl, ap, ◌∙◌, subst, inl, inr, append_assoc, arith}
 use Rattle.lines.specs.Languages.{Lang, none, null, one, ◌then◌, ◌or◌, ◌but◌, many, In, Many, stop, more}
-use Rattle.lines.specs.After.{holds_null, is_none, seq, alt, less, after, after_all, reach}
+use Rattle.lines.specs.After.{holds_null, is_none, seq, alt, less, after, after_all}
 
 pub no_cons : {A : Type 0} (k : A) (s : List A) → [] ≡ k ∷ s → ⊥
 no_cons k s e = let z : ◌≡◌ {A = ℕ} 0 1 = cc in omega arith

@@ -2,10 +2,9 @@
 use Rattle.std.proofs.Common.{◌≡◌, ℕ, Bool, true, false, cond, ◌&&◌, List, map, sym, refl, ap, ◌∙◌}
 use Rattle.lines.specs.declared.line.Form.{Form}
 use Rattle.lines.specs.Marks.{mark_of}
-use Rattle.lines.specs.Languages.{In}
 use Rattle.lines.specs.Grammar.{plain, ending}
 use Rattle.lines.specs.Ends.{begins_end}
-use Rattle.lines.specs.Lines.{idle, is_end, is_statement, form_of, Says, EndLine, StatementLine}
+use Rattle.lines.specs.Lines.{idle, is_end, is_statement, form_of, Says, EndLine}
 use Rattle.lines.proofs.Endings.{is_end_at}
 use Rattle.lines.proofs.Follows.{true_false}
 use Rattle.lines.proofs.Walk.{whole_in, statement_in}

@@ -4,10 +4,10 @@ use Rattle.lines.specs.declared.mark.Mark.{Mark}
 use Rattle.lines.specs.declared.mark.Mark.TheVariants.{Period}
 use Rattle.lines.specs.declared.role.Role.{Role}
 use Rattle.lines.specs.Marks.{same, solid}
-use Rattle.lines.specs.Languages.{Lang, none, one, many, ◌then◌, In}
+use Rattle.lines.specs.Languages.{Lang, none, one, many, ◌then◌}
 use Rattle.lines.specs.After.{holds_null, is_none, seq, alt, less, after, after_all}
 use Rattle.lines.specs.Grammar.{plain, is, name}
-use Rattle.lines.specs.NameForm.{name_marks, first_solid, last_solid, is_name, NameForm}
+use Rattle.lines.specs.NameForm.{name_marks, last_solid, is_name, NameForm}
 use Rattle.lines.proofs.Walk.{whole_in, none_stays}
 use Rattle.lines.proofs.Steps.{AllMarks, at}
 

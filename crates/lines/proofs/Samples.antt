@@ -1,5 +1,5 @@
 -- What may follow at each way in which a line can be partly read, by a sample of its beginning and one of its end. Assumes nothing.
-use Rattle.std.proofs.Common.{ℕ, List, [], ◌∷◌, map, Some, None, codes, Option}
+use Rattle.std.proofs.Common.{ℕ, List, map, Some, None, codes, Option}
 use Rattle.lines.specs.declared.mark.Mark.{Mark}
 use Rattle.lines.specs.declared.reading.Way.{Way}
 use Rattle.lines.specs.declared.reading.Place.{Place}

@@ -1,5 +1,5 @@
 -- Each reading, at each mark, goes on as the grammar does: by computing both. Assumes nothing.
-use Rattle.std.proofs.Common.{◌≡◌, Bool, true, false, List, map, refl}
+use Rattle.std.proofs.Common.{◌≡◌, true, false, map, refl}
 use Rattle.lines.specs.declared.mark.Mark.{Mark}
 use Rattle.lines.specs.declared.mark.Mark.TheVariants.{Blank, LetterE, LetterN, LetterD, LetterS, LetterF, Letter, Zero, OneToThree, Four, FiveSix, SevenEight, Nine, Period, Quote, Dollar, Star, Slash, Open, Close, Equal, Other}
 use Rattle.lines.specs.declared.reading.Way.{Way}

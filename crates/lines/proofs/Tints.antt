@@ -1,7 +1,6 @@
 -- Each reading, at each mark, gives the character the role that the grammar gives it: by computing both. Assumes nothing.
-use Rattle.std.proofs.Common.{◌≡◌, Bool, Some, None, Option, sym, refl, ap, ◌∙◌}
+use Rattle.std.proofs.Common.{◌≡◌, Some, None, Option, sym, refl, ap, ◌∙◌}
 use Rattle.lines.specs.declared.mark.Mark.{Mark}
-use Rattle.lines.specs.declared.mark.Mark.TheVariants.{Blank, LetterE, LetterN, LetterD, LetterS, LetterF, Letter, Zero, OneToThree, Four, FiveSix, SevenEight, Nine, Period, Quote, Dollar, Star, Slash, Open, Close, Equal, Other}
 use Rattle.lines.specs.declared.reading.Way.{Way}
 use Rattle.lines.specs.declared.reading.Place.{Place}
 use Rattle.lines.specs.declared.reading.Section.{Section}

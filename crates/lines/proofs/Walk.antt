@@ -6,10 +6,10 @@ use Rattle.lines.specs.declared.reading.Reading.{Reading}
 use Rattle.lines.specs.Marks.{mark_of}
 use Rattle.lines.specs.Languages.{Lang, none, In}
 use Rattle.lines.specs.After.{holds_null, is_none, after, after_all, reach}
-use Rattle.lines.specs.Grammar.{plain, line, ending}
+use Rattle.lines.specs.Grammar.{plain, line}
 use Rattle.lines.specs.Next.{beginning, next, stands}
 use Rattle.lines.proofs.Samples.{follow, follows, finish}
-use Rattle.lines.specs.Lines.{BeginsLine, StatementLine, longest, Longest, is_statement}
+use Rattle.lines.specs.Lines.{StatementLine, longest, Longest, is_statement}
 use Rattle.lines.proofs.Follows.{null_in, after_in, after_all_in}
 use Rattle.lines.proofs.Steps.{steps, finishes, some_follow, stands_follow}
 

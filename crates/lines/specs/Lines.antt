@@ -5,7 +5,7 @@ use Rattle.lines.specs.declared.line.Form.{Form}
 use Rattle.lines.specs.Marks.{mark_of}
 use Rattle.lines.specs.Languages.{In}
 use Rattle.lines.specs.After.{holds_null, after_all, reach}
-use Rattle.lines.specs.Grammar.{Character, plain, tinted, statement, ending, line}
+use Rattle.lines.specs.Grammar.{Character, plain, tinted, ending, line}
 use Rattle.lines.specs.Roles.{roles}
 use Rattle.lines.specs.Tokens.{Abut, tokens, spread}
 

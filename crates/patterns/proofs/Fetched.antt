@@ -1,9 +1,8 @@
 -- What is known of symbols that were written or fetched to the front of an area. Assumes nothing.
-use Rattle.std.proofs.Common.{◌≡◌, ℕ, zero, suc, ◌-◌, ◌<◌, ◌≤◌, Bool, true, false, cond, ◌||◌, eqb, ltb, List, [], ◌∷◌, ◌++◌, length, get_or, take, drop, Some, None, Ok, Err, Option, sym, refl, ap, ◌∙◌, arith}
+use Rattle.std.proofs.Common.{◌≡◌, ℕ, zero, suc, ◌-◌, ◌≤◌, Bool, true, false, cond, ◌||◌, ltb, List, [], length, take, drop, Some, None, Ok, Err, sym, refl, ap, ◌∙◌, arith}
 use Rattle.std.proofs.lemmas.List.{take_at, get_or_past}
 use Rattle.std.proofs.lemmas.Bool.{cond-false, le-ltb, ltb-true, ne_eqb}
 use Rattle.symbols.specs.Answers.{answered, unless, over}
-use Rattle.stores.specs.declared.refusal.StoreRefusal.{StoreRefusal}
 use Rattle.stores.specs.declared.refusal.StoreRefusal.TheVariants.{OutOfRange, ShortArea}
 use Rattle.stores.specs.Names.{Names, under}
 use Rattle.stores.specs.Calls.{outside, fetch_refusal}

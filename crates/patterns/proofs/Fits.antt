@@ -1,12 +1,12 @@
 -- A fitted pattern has the partial placings of the pattern. Assumes nothing.
-use Rattle.std.proofs.Common.{◌≡◌, ℕ, zero, suc, ◌+◌, ◌-◌, ◌<◌, ◌≤◌, Bool, true, false, cond, ◌&&◌, eqb, ltb, leb, ◌⊎◌, List, [], ◌∷◌, map, length, get_or, take, drop, sym, refl, ap, ◌∙◌, inl, inr, ⊎_elim, arith}
+use Rattle.std.proofs.Common.{◌≡◌, ℕ, zero, suc, ◌+◌, ◌-◌, ◌<◌, ◌≤◌, Bool, ◌&&◌, ltb, leb, List, [], ◌∷◌, length, get_or, drop, sym, refl, ap, ◌∙◌, ⊎_elim, arith}
 use Rattle.std.proofs.lemmas.List.{length-take, length-drop}
 use Rattle.std.proofs.lemmas.Bool.{cond-true, cond-false, lt-ltb, le-ltb, ne_eqb, cases_lt}
 use Rattle.symbols.specs.declared.role.Role.{Role}
 use Rattle.placings.specs.declared.mode.Mode.{Mode}
 use Rattle.placings.specs.Pattern.{Element, constant, arbitrary, balanced, fixed, again, part}
 use Rattle.placings.specs.Tree.{paths}
-use Rattle.placings.specs.Enumeration.{suits_test, may_at, may, partials, same_parts, answer}
+use Rattle.placings.specs.Enumeration.{suits_test, may_at, may, partials, answer}
 use Rattle.scan.proofs.Parts.{same_lengths}
 use Rattle.patterns.specs.Fitted.{fit, fitted, Alike}
 

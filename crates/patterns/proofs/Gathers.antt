@@ -1,6 +1,6 @@
 -- A pattern gathered element by element. Assumes nothing.
-use Rattle.std.proofs.Common.{◌≡◌, ℕ, suc, ◌+◌, ◌-◌, ◌*◌, ◌<◌, ◌≤◌, Bool, true, false, ◌&&◌, ltb, leb, List, [], ◌∷◌, ◌++◌, map, length, get_or, take, drop, Some, None, Option, sym, refl, ap, ◌∙◌, mul-le-mul_right, suc-mul, arith}
-use Rattle.std.proofs.lemmas.List.{append-nil, append_assoc, take_more, at_drop_more, drop_all, length-take-le}
+use Rattle.std.proofs.Common.{◌≡◌, ℕ, suc, ◌+◌, ◌*◌, ◌<◌, ◌≤◌, true, leb, List, [], ◌∷◌, ◌++◌, length, get_or, take, drop, Some, None, Option, sym, refl, ap, ◌∙◌, mul-le-mul_right, suc-mul, arith}
+use Rattle.std.proofs.lemmas.List.{append-nil, append_assoc, take_more, at_drop_more, drop_all}
 use Rattle.std.proofs.lemmas.Bool.{and_parts, and_from, leb-true, le-leb}
 use Rattle.std.specs.Option.{option_map}
 use Rattle.placings.specs.Pattern.{constant}
@@ -15,7 +15,7 @@ use Rattle.tables.specs.declared.row.Item.{Item}
 use Rattle.tables.specs.declared.sheet.NameTable.{NameTable}
 use Rattle.patterns.specs.Resolved.{before_all, item_element, resolved_behind}
 use Rattle.patterns.specs.Fitted.{fit, fitted}
-use Rattle.patterns.specs.Gathering.{Adds, Gathers}
+use Rattle.patterns.specs.Gathering.{Gathers}
 use Rattle.patterns.proofs.Areas.{part_before}
 use Rattle.patterns.proofs.Fits.{fit_short}
 

@@ -8,7 +8,7 @@ use Rattle.symbols.specs.declared.role.Role.{Role}
 use Rattle.placings.specs.declared.mode.Mode.{Mode}
 use Rattle.placings.specs.Pattern.{Element}
 use Rattle.placings.specs.Order.{Before, Ascending}
-use Rattle.placings.specs.Placing.{Partial, Placing, Unplaced, Earliest}
+use Rattle.placings.specs.Placing.{Partial, Unplaced, Earliest}
 use Rattle.placings.specs.Enumeration.{partials, first, count, verdict}
 use Rattle.placings.specs.Theorems.{Enumerates, Decided}
 use Rattle.placings.proofs.Order.{apart, all_back, behind_after}

@@ -1,5 +1,5 @@
 -- What a pattern is made of, and when a part of the subject suits an element. Assumes nothing.
-use Rattle.std.specs.Prelude.{◌≡◌, ℕ, suc, ◌+◌, ◌-◌, ◌<◌, ◌≤◌, List, [], ◌∷◌, length, take, slice_index, slice_range}
+use Rattle.std.specs.Prelude.{◌≡◌, ℕ, suc, ◌+◌, ◌<◌, ◌≤◌, List, [], ◌∷◌, length, take, slice_index, slice_range}
 use Rattle.symbols.specs.declared.role.Role.{Role}
 use Rattle.symbols.specs.declared.role.Role.TheVariants.{Opening, Closing, Plain}
 

@@ -1,5 +1,5 @@
 -- What a refused call leaves, and an accepted one. Assumes nothing.
-use Rattle.std.proofs.Common.{◌≡◌, ℕ, ◌+◌, ◌<◌, ◌≤◌, leb, List, [], ◌∷◌, ◌++◌, length, take, drop, set, Some, None, Ok, Err, Option, Result, sym, refl, ap, ◌∙◌, ⊎_elim, add-one, arith}
+use Rattle.std.proofs.Common.{◌≡◌, ℕ, ◌+◌, ◌<◌, ◌≤◌, List, [], ◌∷◌, ◌++◌, length, take, set, Some, None, Ok, Err, Option, Result, sym, ap, ◌∙◌, ⊎_elim, add-one, arith}
 use Rattle.std.proofs.lemmas.List.{append-nil, append_assoc, length-take-le, length-set, length_push, take_all, drop_all, take-append-drop, take_more_set, set_split}
 use Rattle.std.proofs.lemmas.Bool.{cases_lt, le-leb, lt-leb, cond-true, cond-false}
 use Rattle.symbols.specs.Answers.{answered, over}
@@ -8,7 +8,7 @@ use Rattle.session.specs.declared.entry.Entry.{Entry}
 use Rattle.session.specs.declared.refusal.Refusal.{Refusal}
 use Rattle.session.specs.declared.refusal.Refusal.TheVariants.{RecordFull}
 use Rattle.session.specs.declared.session.Session.{Session}
-use Rattle.session.specs.State.{State, state}
+use Rattle.session.specs.State.{state}
 use Rattle.session.specs.Calls.{full}
 use Rattle.session.specs.Effects.{Effect, after, Leaves}
 

@@ -1,5 +1,5 @@
 -- What the checks before a statement clear, and what carrying it out leaves of a step. Assumes nothing.
-use Rattle.std.proofs.Common.{◌≡◌, ℕ, ◌*◌, ◌≤◌, Bool, true, false, cond, ◌&&◌, ◌||◌, ltb, leb, List, length, take, Some, None, Ok, Err, Option, Result, sym, refl, ap, ◌∙◌, subst, arith}
+use Rattle.std.proofs.Common.{◌≡◌, ℕ, ◌*◌, ◌≤◌, Bool, true, false, cond, ◌||◌, ltb, leb, List, length, take, Some, None, Ok, Err, Option, Result, sym, refl, ap, ◌∙◌, subst, arith}
 use Rattle.std.proofs.lemmas.Bool.{and_parts, or_parts, leb-true, ltb-false}
 use Rattle.symbols.specs.declared.role.Role.{Role}
 use Rattle.placings.specs.declared.mode.Mode.{Mode}
@@ -8,8 +8,7 @@ use Rattle.tables.specs.declared.row.Row.{Row}
 use Rattle.tables.specs.declared.sheet.NameTable.{NameTable}
 use Rattle.tables.specs.declared.sheet.Tables.{Tables}
 use Rattle.tables.specs.Tables.{Tabled, tabled}
-use Rattle.checks.specs.Fits.{admits}
-use Rattle.checks.specs.Sound.{Sound-row, Admitted}
+use Rattle.checks.specs.Sound.{Sound-row}
 use Rattle.checks.proofs.Admitted.{admitted}
 use Rattle.checks.proofs.Sound.{sound_row_more}
 use Rattle.statements.specs.declared.carry.Done.{Done}
@@ -20,7 +19,7 @@ use Rattle.statements.specs.Listed.{Carriable}
 use Rattle.statements.specs.Settled.{Left, next_of, names_of}
 use Rattle.statements.specs.Sought.{sought}
 use Rattle.session.specs.declared.refusal.Refusal.{Refusal}
-use Rattle.session.specs.declared.refusal.Refusal.TheVariants.{AtEnd, OutOfRange, ShortArea, Unfit}
+use Rattle.session.specs.declared.refusal.Refusal.TheVariants.{OutOfRange, ShortArea, Unfit}
 use Rattle.session.specs.declared.step.Work.{Work}
 use Rattle.session.specs.Calls.{fits, unfit, full}
 use Rattle.session.specs.Refusals.{first_of, stated}

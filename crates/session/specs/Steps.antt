@@ -1,11 +1,9 @@
 -- The step of a session: the statement that is next, carried out. Assumes nothing.
-use Rattle.std.specs.Prelude.{ℕ, zero, suc, ◌*◌, Bool, cond, ◌&&◌, ◌||◌, List, [], ◌∷◌, length, Some, None, Ok, Err, Option, Result, nat_le, nat_lt}
+use Rattle.std.specs.Prelude.{ℕ, zero, suc, ◌*◌, Bool, cond, ◌&&◌, ◌||◌, List, [], ◌∷◌, Some, None, Ok, Err, Option, Result, nat_le, nat_lt}
 use Rattle.symbols.specs.declared.role.Role.{Role}
-use Rattle.placings.specs.declared.mode.Mode.{Mode}
 use Rattle.scan.specs.declared.answer.Scanned.{Scanned}
 use Rattle.scan.specs.declared.answer.Verdict.{Verdict}
 use Rattle.scan.specs.declared.answer.Verdict.TheVariants as verdict
-use Rattle.stores.specs.Names.{Names}
 use Rattle.tables.specs.declared.row.Next.{Next}
 use Rattle.tables.specs.declared.row.Next.TheVariants.{Statement, End}
 use Rattle.tables.specs.declared.row.Row.{Row}

@@ -1,5 +1,5 @@
 -- Tokens further right have faults further right, so the first token with a fault has the one that counts. Assumes nothing.
-use Rattle.std.proofs.Common.{◌≡◌, ℕ, ◌+◌, ◌-◌, ◌<◌, ◌≤◌, Bool, true, false, cond, ◌&&◌, eqb, ltb, leb, List, [], ◌∷◌, ◌++◌, length, get_or, take, drop, Some, None, Ok, Err, Option, Result, sym, refl, ap, ◌∙◌, subst, arith, length-take, ltb-true}
+use Rattle.std.proofs.Common.{◌≡◌, ℕ, ◌+◌, ◌-◌, ◌<◌, ◌≤◌, Bool, true, false, cond, ◌&&◌, eqb, ltb, leb, List, [], ◌∷◌, ◌++◌, length, get_or, drop, Some, None, Ok, Err, Option, Result, sym, refl, ap, ◌∙◌, subst, arith, length-take, ltb-true}
 use native.Mathlib.Nat.{min-le_left}
 use Rattle.std.specs.List.{AllByRecursion as All}
 use Rattle.std.proofs.ByRecursion.{All-append, All-weaker}
@@ -14,7 +14,7 @@ use Rattle.sheets.specs.Faults.{fault, before, least, first}
 use Rattle.sheets.specs.Items.{sort_of, opened_by, indirect, word, spelling, brings_name, sort_brings, closed, contents}
 use Rattle.sheets.specs.Parts.{part_of, position}
 use Rattle.sheets.specs.Tallies.{Count, when, sort_limited, long_name, opened_before, ninth, absent, extra_name, is_literal, sort_literal, literal, literal_faults, token_faults, with_token, faults_from, first_from, or_else}
-use Rattle.sheets.proofs.Firsts.{first_append, least_none}
+use Rattle.sheets.proofs.Firsts.{first_append}
 
 -- columns after k, up to e
 abbrev Between : ℕ → ℕ → Fault → Type 0

@@ -1,10 +1,10 @@
 -- Codes outside 32 to 126, left to right. Assumes nothing.
-use Rattle.std.proofs.Common.{◌≡◌, ℕ, suc, ◌+◌, ◌<◌, ◌≤◌, Bool, true, false, cond, ◌&&◌, ltb, leb, List, [], ◌∷◌, ◌++◌, length, get_or, drop, Some, None, Option, sym, refl, ap, ◌∙◌, subst, add-one, arith, drop-cons}
+use Rattle.std.proofs.Common.{◌≡◌, ℕ, suc, ◌+◌, ◌<◌, Bool, true, false, cond, ◌&&◌, leb, List, [], ◌∷◌, length, get_or, drop, Some, None, ap, ◌∙◌, add-one, arith, drop-cons}
 use lib.Seq.{drop-length}
 use Rattle.std.proofs.lemmas.Bool.Decides.{nat_tests}
 use Rattle.sheets.specs.declared.fault.Fault.{Fault}
 use Rattle.sheets.specs.declared.fault.Cause.{Cause}
-use Rattle.sheets.specs.Faults.{fault, before, least, first}
+use Rattle.sheets.specs.Faults.{fault, first}
 use Rattle.sheets.specs.LineFaults.{bad_codes}
 use Rattle.sheets.proofs.Firsts.{first_ahead, Ahead}
 

@@ -1,12 +1,10 @@
 -- Labels looked for token by token and line by line. Assumes nothing.
-use Rattle.std.proofs.Common.{◌≡◌, ℕ, ◌+◌, ◌-◌, ◌<◌, ◌≤◌, List, [], ◌∷◌, length, take, drop, Some, None, Option, sym, refl, ap, ◌∙◌}
+use Rattle.std.proofs.Common.{◌≡◌, ℕ, ◌+◌, ◌-◌, ◌<◌, ◌≤◌, List, [], length, take, drop, None, Option, sym, ap, ◌∙◌}
 use Rattle.lines.specs.declared.reading.Reading.{Reading}
 use Rattle.lines.specs.declared.token.Taken.{Taken}
-use Rattle.lines.specs.declared.token.Token.{Token}
 use Rattle.lines.specs.Tokens.{tokens, tokens_from, Took}
 use Rattle.sheets.specs.declared.fault.Fault.{Fault}
 use Rattle.sheets.specs.declared.fault.Refusal.{Refusal}
-use Rattle.sheets.specs.Faults.{refused_at}
 use Rattle.sheets.specs.Labels.{token_unknown, unknown_from, lines_unknown}
 use Rattle.sheets.specs.Sheets.{lines_of, line_length, refused_first}
 use Rattle.sheets.specs.Tallies.{or_else}

@@ -1,5 +1,5 @@
 -- A line's own faults, and what a line without fault brings. Assumes nothing.
-use Rattle.std.proofs.Common.{◌≡◌, ℕ, ◌+◌, ◌<◌, ◌≤◌, Bool, true, false, cond, not, ◌&&◌, ◌||◌, ltb, leb, List, [], ◌∷◌, ◌++◌, map, length, take, drop, set, Some, None, Ok, Err, Option, Result, sym, refl, ap, ◌∙◌, subst, arith, take-take}
+use Rattle.std.proofs.Common.{◌≡◌, ℕ, ◌+◌, ◌<◌, ◌≤◌, Bool, true, false, cond, not, ◌&&◌, ◌||◌, leb, List, [], ◌∷◌, ◌++◌, map, length, take, drop, set, Some, None, Option, Result, sym, refl, ap, ◌∙◌, subst, arith, take-take}
 use Rattle.std.proofs.lemmas.Bool.Decides.{nat_tests}
 use Rattle.lines.specs.Lines.{idle}
 use Rattle.lines.specs.Tokens.{tokens}
@@ -13,7 +13,7 @@ use Rattle.sheets.specs.declared.tally.Tally.{Tally}
 use Rattle.sheets.specs.Faults.{fault, least, first}
 use Rattle.sheets.specs.LineFaults.{Brought, no_statement, label, label_size, labelled_end, extra_statement, second_label, none_yet, code_faults, passed, form_faults, own_faults, line_faults, with_statement, with_line, carried, Limited, Checked}
 use Rattle.sheets.specs.Parts.{part_of}
-use Rattle.sheets.specs.Tallies.{Count, told, Within, when, faults_from, count_from, Lies}
+use Rattle.sheets.specs.Tallies.{Count, told, Within, faults_from, count_from, Lies}
 use Rattle.sheets.proofs.Firsts.{first_append, least_none}
 use Rattle.sheets.proofs.Searches.{pushed}
 use Rattle.sheets.proofs.TokenLaws.{three, least_none_left, least_none_right, when_none}

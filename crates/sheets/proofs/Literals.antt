@@ -1,5 +1,5 @@
 -- Where the symbol fault of a literal can be. Assumes nothing.
-use Rattle.std.proofs.Common.{◌≡◌, ℕ, zero, suc, ◌+◌, ◌-◌, ◌*◌, ◌/◌, ◌%◌, ◌≤◌, Bool, true, false, cond, eqb, List, [], ◌∷◌, length, take, drop, Some, None, Ok, Err, Option, Result, sym, refl, ap, ◌∙◌, subst, zero-le, le_trans, add-mul, one-mul, div-le_self, div-mul-le_self, add-one, arith, length-take}
+use Rattle.std.proofs.Common.{◌≡◌, ℕ, zero, suc, ◌+◌, ◌*◌, ◌/◌, ◌%◌, ◌≤◌, Bool, true, false, cond, eqb, List, [], ◌∷◌, length, take, drop, Some, None, Ok, Err, Option, Result, sym, refl, ap, ◌∙◌, subst, zero-le, le_trans, add-mul, one-mul, div-le_self, div-mul-le_self, add-one, arith, length-take}
 use native.Mathlib.Nat.{min-le_left}
 use Rattle.symbols.specs.declared.fault.TextFault.{TextFault}
 use Rattle.symbols.specs.declared.fault.SymbolFault.TheVariants.{NotWhole}

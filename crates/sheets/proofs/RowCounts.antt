@@ -1,5 +1,5 @@
 -- An accepted text has a row for each statement. Assumes nothing.
-use Rattle.std.proofs.Common.{◌≡◌, ℕ, ◌+◌, ◌≤◌, Bool, true, false, cond, not, ◌&&◌, ◌||◌, ltb, List, [], ◌∷◌, ◌++◌, length, Some, None, Option, Result, sym, refl, ap, ◌∙◌, subst, arith}
+use Rattle.std.proofs.Common.{◌≡◌, ℕ, ◌+◌, ◌≤◌, Bool, true, false, cond, not, ◌&&◌, ◌||◌, ltb, List, [], ◌∷◌, ◌++◌, length, Some, None, Option, Result, sym, refl, ap, ◌∙◌, arith}
 use Rattle.std.proofs.lemmas.Bool.Decides.{nat_tests}
 use Rattle.lines.specs.Lines.{idle}
 use Rattle.lines.specs.Tokens.{tokens}
@@ -8,10 +8,10 @@ use Rattle.sheets.specs.declared.fault.Cause.{Cause}
 use Rattle.sheets.specs.declared.fault.Fault.{Fault}
 use Rattle.sheets.specs.declared.fault.Refusal.{Refusal}
 use Rattle.sheets.specs.Entries.{symbols_from, row_of}
-use Rattle.sheets.specs.Faults.{fault, least, first}
+use Rattle.sheets.specs.Faults.{fault, first}
 use Rattle.sheets.specs.Labels.{nowhere, or_refused, no_end, brought, lines_unknown, text_refusal}
 use Rattle.sheets.specs.LineFaults.{Brought, no_statement, extra_statement, second_label, labelled_end, code_faults, form_faults, own_faults, none_yet, passed, line_faults, with_statement, with_line}
-use Rattle.sheets.specs.Rows.{has_row, in_front, rows_from}
+use Rattle.sheets.specs.Rows.{has_row, rows_from}
 use Rattle.sheets.specs.Sheets.{lines_of, refused_first, nothing, lines_refusal, brought_by}
 use Rattle.sheets.specs.Tallies.{faults_from}
 use Rattle.sheets.proofs.Firsts.{first_append}

@@ -1,11 +1,10 @@
 -- The row of a line, token by token. Assumes nothing.
-use Rattle.std.proofs.Common.{◌≡◌, ℕ, ◌+◌, ◌-◌, ◌≤◌, Bool, true, false, cond, List, [], ◌∷◌, drop, Ok, Err, Result, sym, refl, ap, ◌∙◌, subst, arith}
+use Rattle.std.proofs.Common.{◌≡◌, ℕ, ◌+◌, ◌≤◌, Bool, true, false, cond, List, [], drop, Ok, Err, Result, sym, ap, ◌∙◌, arith}
 use Rattle.lines.specs.declared.reading.Reading.{Reading}
 use Rattle.lines.specs.declared.token.Taken.{Taken}
 use Rattle.lines.specs.declared.token.Token.{Token}
 use Rattle.lines.specs.Tokens.{tokens_from, Took}
 use Rattle.symbols.specs.declared.fault.TextFault.{TextFault}
-use Rattle.sheets.specs.declared.fault.SymbolAt.{SymbolAt}
 use Rattle.sheets.specs.declared.part.Part.{Part}
 use Rattle.sheets.specs.declared.row.Row.{Row}
 use Rattle.sheets.specs.Entries.{entry_of, entered, row_from, symbols_from}

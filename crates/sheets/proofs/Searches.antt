@@ -1,5 +1,5 @@
 -- A search among the words of a table. Assumes nothing.
-use Rattle.std.proofs.Common.{◌≡◌, ℕ, zero, suc, ◌+◌, ◌-◌, ◌<◌, ◌≤◌, Bool, true, false, cond, ltb, List, [], ◌∷◌, ◌++◌, map, length, get_or, take, drop, set, Some, None, Decides, Option, sym, refl, ap, ◌∙◌, subst, suc-le-suc, le_of_suc-le-suc, not-suc-le-zero, add-one, arith, length-drop, take_all, drop-cons, take-suc-set, ltb-false}
+use Rattle.std.proofs.Common.{◌≡◌, ℕ, zero, suc, ◌+◌, ◌-◌, ◌<◌, ◌≤◌, Bool, true, false, cond, ltb, List, [], ◌∷◌, ◌++◌, map, length, get_or, take, drop, set, Some, None, Option, sym, refl, ap, ◌∙◌, subst, suc-le-suc, le_of_suc-le-suc, not-suc-le-zero, add-one, arith, length-drop, take_all, drop-cons, take-suc-set, ltb-false}
 use lib.Seq.{drop-length, take-length}
 use Rattle.std.specs.Str.{bytes_eq}
 use Rattle.sheets.specs.declared.part.Part.{Part}

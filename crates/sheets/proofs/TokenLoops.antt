@@ -1,5 +1,5 @@
 -- The tokens of a line, taken one by one. Assumes nothing.
-use Rattle.std.proofs.Common.{◌≡◌, ℕ, ◌+◌, List, [], ◌∷◌, length, drop, Some, None, Option, Result, sym, refl, ap, ◌∙◌}
+use Rattle.std.proofs.Common.{◌≡◌, ℕ, ◌+◌, List, [], drop, Some, None, Option, Result, sym, ap, ◌∙◌}
 use Rattle.lines.specs.declared.reading.Reading.{Reading}
 use Rattle.lines.specs.declared.token.Taken.{Taken}
 use Rattle.lines.specs.declared.token.Token.{Token}

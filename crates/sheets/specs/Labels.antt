@@ -9,7 +9,6 @@ use Rattle.sheets.specs.declared.fault.Cause.{Cause}
 use Rattle.sheets.specs.declared.fault.Fault.{Fault}
 use Rattle.sheets.specs.declared.fault.Refusal.{Refusal}
 use Rattle.sheets.specs.declared.outline.Outline.{Outline}
-use Rattle.sheets.specs.declared.part.Part.{Part}
 use Rattle.sheets.specs.Faults.{fault}
 use Rattle.sheets.specs.Items.{indirect}
 use Rattle.sheets.specs.LineFaults.{Brought, carried, Limited}

@@ -1,8 +1,7 @@
 -- A sheet's text as its lines, and what it is refused for. Assumes nothing.
-use Rattle.std.specs.Prelude.{◌≡◌, ℕ, suc, ◌+◌, Bool, false, cond, List, [], ◌∷◌, length, Some, None, Ok, Err, Option, Result, ◌==◌}
+use Rattle.std.specs.Prelude.{◌≡◌, ℕ, suc, ◌+◌, false, cond, List, [], ◌∷◌, Some, None, Ok, Err, Option, Result, ◌==◌}
 use Rattle.symbols.specs.declared.fault.TextFault.{TextFault}
 use Rattle.sheets.specs.declared.check.Carried.{Carried}
-use Rattle.sheets.specs.declared.fault.Cause.{Cause}
 use Rattle.sheets.specs.declared.fault.Fault.{Fault}
 use Rattle.sheets.specs.declared.fault.LineFault.{LineFault}
 use Rattle.sheets.specs.declared.fault.Refusal.{Refusal}

@@ -4,16 +4,15 @@ use Rattle.std.proofs.lemmas.List.{length-take}
 use Rattle.std.specs.List.{flat_map}
 use Rattle.symbols.specs.declared.role.Role.{Role}
 use Rattle.placings.specs.declared.mode.Mode.{Mode}
-use Rattle.placings.specs.Enumeration.{Told, scanned}
+use Rattle.placings.specs.Enumeration.{scanned}
 use Rattle.placings.specs.Pattern.{Element}
-use Rattle.placings.specs.Placing.{Placing}
 use Rattle.placings.specs.Theorems.{Equality}
 use Rattle.scan.specs.declared.answer.Placed.{Placed}
 use Rattle.scan.specs.declared.answer.Scanned.{Scanned}
 use Rattle.scan.specs.declared.answer.ScanRefusal.{ScanRefusal}
 use Rattle.scan.specs.declared.answer.Verdict.{Verdict}
 use Rattle.scan.specs.declared.answer.Verdict.TheVariants.{Success, Failure}
-use Rattle.scan.specs.Answers.{placed, places_of, returned, AnswerSays}
+use Rattle.scan.specs.Answers.{placed, returned, AnswerSays}
 use Rattle.scan.proofs.Saying.{answer_says}
 use Rattle.stores.specs.Names.{Names, under}
 use Rattle.tables.specs.declared.row.Item.{Item}
@@ -22,7 +21,7 @@ use Rattle.tables.specs.declared.row.Reference.TheVariants.{Named, Through}
 use Rattle.tables.specs.declared.row.Row.{Row}
 use Rattle.tables.specs.declared.sheet.NameTable.{NameTable}
 use Rattle.tables.specs.Limits.{longest_name}
-use Rattle.tables.specs.Lookups.{spelled, names_in, number_from, name_number, First}
+use Rattle.tables.specs.Lookups.{spelled, names_in, name_number, First}
 use Rattle.tables.proofs.Lookups as lookups
 use Rattle.patterns.specs.Gathered.{items_in}
 use Rattle.patterns.specs.Meant.{named_by, meant}
@@ -33,7 +32,7 @@ use Rattle.statements.specs.declared.refusal.StatementRefusal.{StatementRefusal}
 use Rattle.statements.specs.declared.seek.Sought.{Sought}
 use Rattle.statements.specs.Carried.{cut, Cuts}
 use Rattle.statements.specs.Listed.{Carriable}
-use Rattle.statements.specs.Sought.{unscanned_success, judged, found, verdict_on, sought_in, referred, sought}
+use Rattle.statements.specs.Sought.{judged, found, verdict_on, referred, sought}
 
 -- the number of a name of a table is one of its numbers
 first_high : {A : Type 0} (test : A → Bool) (xs : List A) (o : Option ℕ) → First test xs o → (n : ℕ) → o ≡ Some n → changes.In (length xs) n

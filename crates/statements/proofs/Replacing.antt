@@ -1,8 +1,8 @@
 -- New contents that are longer than a string may be go over the limits. Assumes nothing.
-use Rattle.std.proofs.Common.{◌≡◌, ℕ, ◌<◌, ◌≤◌, Bool, true, false, cond, eqb, ltb, List, [], length, Some, None, Err, Option, Result, sym, refl, ap, ◌∙◌, arith}
+use Rattle.std.proofs.Common.{◌≡◌, ℕ, ◌<◌, Bool, true, false, cond, ltb, List, [], length, Some, None, Err, Option, Result, sym, refl, ap, ◌∙◌, arith}
 use Rattle.std.proofs.lemmas.Bool.{eq-eqb, ltb-true}
 use Rattle.std.specs.Option.{option_map}
-use Rattle.stores.specs.Names.{Names, under, with_string}
+use Rattle.stores.specs.Names.{Names, under}
 use Rattle.stores.specs.Puts.{put_or}
 use Rattle.stores.proofs.Puts.{under_with}
 use Rattle.tables.specs.declared.row.Item.{Item}

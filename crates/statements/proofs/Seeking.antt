@@ -1,5 +1,5 @@
 -- The verdict on gathered elements is the one on the pattern that they serve for. Assumes nothing.
-use Rattle.std.proofs.Common.{◌≡◌, ℕ, ◌*◌, ◌<◌, ◌≤◌, Bool, cond, ltb, List, [], ◌∷◌, length, take, Some, None, Ok, Err, Option, Result, sym, refl, ap, ◌∙◌, arith}
+use Rattle.std.proofs.Common.{◌≡◌, ℕ, ◌*◌, ◌<◌, ◌≤◌, Bool, ltb, List, [], ◌∷◌, length, take, Some, None, Ok, Err, Option, Result, refl, ap, ◌∙◌, arith}
 use Rattle.std.proofs.lemmas.Bool.{cond-false, le-ltb}
 use Rattle.symbols.specs.declared.role.Role.{Role}
 use Rattle.placings.specs.declared.mode.Mode.{Mode}
@@ -7,15 +7,11 @@ use Rattle.placings.specs.Pattern as placings
 use Rattle.scan.specs.declared.answer.Scanned.{Scanned}
 use Rattle.scan.specs.declared.element.Element.{Element}
 use Rattle.scan.specs.Answers.{scan_answer}
-use Rattle.scan.specs.Elements.{pattern}
 use Rattle.stores.specs.Names.{Names, under}
 use Rattle.patterns.specs.declared.gathered.Gathered.{Gathered}
-use Rattle.patterns.specs.declared.gathered.PatternRefusal.{PatternRefusal}
 use Rattle.patterns.specs.declared.gathered.PatternRefusal.TheVariants.{ShortArea, NoName}
-use Rattle.patterns.specs.Fitted.{fitted}
-use Rattle.patterns.specs.Gathered.{elements_in, gathered, fitted_or, gather_answer, Serves, Served}
+use Rattle.patterns.specs.Gathered.{elements_in, gathered, gather_answer, Serves, Served}
 use Rattle.statements.specs.declared.refusal.StatementRefusal.{StatementRefusal}
-use Rattle.statements.specs.declared.seek.Sought.{Sought}
 use Rattle.statements.specs.Sought.{judged, element_verdict, verdict_on, found, referred, Fetched}
 
 pub fetched_found : {X : Type 0} (names : Names X) (area : List X) (t n : ℕ) (r : Result Scanned StatementRefusal) → n ≤ length area → take n area ≡ under names t → Fetched names area (found t n r)

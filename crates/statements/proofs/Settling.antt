@@ -1,5 +1,5 @@
 -- Names within their limits find room in an area of the longest string. Assumes nothing.
-use Rattle.std.proofs.Common.{◌≡◌, ℕ, zero, suc, ◌<◌, ◌≤◌, false, List, [], ◌∷◌, length, get_or, Some, None, Option, Result, refl, ap, arith}
+use Rattle.std.proofs.Common.{◌≡◌, ℕ, zero, suc, ◌<◌, ◌≤◌, false, List, [], ◌∷◌, length, get_or, Some, None, Option, refl, ap, arith}
 use Rattle.stores.specs.Names.{Names, under}
 use Rattle.std.specs.Option.{ok_or}
 use Rattle.tables.specs.declared.row.Next.{Next}

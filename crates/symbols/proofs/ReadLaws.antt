@@ -1,14 +1,13 @@
 -- Reading a text and writing its symbols are inverse to each other, and a fault is where it is said to be.
-use Rattle.std.proofs.Common.{◌≡◌, ℕ, zero, suc, ◌+◌, ◌-◌, ◌*◌, ◌/◌, ◌%◌, ◌<◌, ◌≤◌, Bool, true, false, cond, eqb, List, [], ◌∷◌, ◌++◌, length, take, drop, Some, None, Ok, Err, Option, Result, sym, refl, ap, ◌∙◌, subst, append-nil, suc-mul, div-add-mod', mul-div_cancel, arith, drop-drop, take-add}
+use Rattle.std.proofs.Common.{◌≡◌, ℕ, zero, suc, ◌+◌, ◌*◌, ◌/◌, ◌%◌, ◌≤◌, Bool, true, false, cond, eqb, List, [], ◌∷◌, ◌++◌, length, take, drop, Some, None, Ok, Err, Option, Result, sym, refl, ap, ◌∙◌, subst, suc-mul, div-add-mod', mul-div_cancel, arith, drop-drop, take-add}
 use native.Mathlib.Nat.{mul-mod_left}
 use Rattle.std.proofs.lemmas.List.{length-append, length-drop, take-append-drop, take_at, drop_at, nil_from_length, flat_map_more}
 use Rattle.std.proofs.lemmas.Bool.{eqb-false}
 use Rattle.std.specs.List.{flat_map}
 use Rattle.symbols.specs.Texts.{before, symbols_from, text_read, Faulty, Tells}
-use Rattle.symbols.specs.declared.fault.SymbolFault.{SymbolFault}
 use Rattle.symbols.specs.declared.fault.SymbolFault.TheVariants.{NotWhole, NoMeaning}
 use Rattle.symbols.specs.declared.fault.TextFault.{TextFault}
-use Rattle.symbols.proofs.TextLaws.{before_ok, read_whole, read_not_whole, whole_read}
+use Rattle.symbols.proofs.TextLaws.{before_ok, read_whole, whole_read}
 
 -- the first fault stands at the first symbol or behind it
 before_err : {X : Type 0} (at : ℕ) (o : Option X) (r : Result (List X) TextFault) (f : TextFault) (P : Type 0) → before at o r ≡ Err f → (o ≡ None → f ≡ record { fault = NoMeaning; at = at } → P) → ((x : X) → o ≡ Some x → r ≡ Err f → P) → P

@@ -1,8 +1,8 @@
 -- Reading and writing whole texts: one symbol more, and what comes of all of them.
-use Rattle.std.proofs.Common.{◌≡◌, ℕ, zero, suc, ◌+◌, ◌-◌, ◌*◌, ◌/◌, ◌%◌, ◌<◌, ◌≤◌, Bool, true, false, cond, eqb, ltb, List, [], ◌∷◌, ◌++◌, length, get_or, take, drop, set, Some, None, Ok, Err, Option, Result, sym, refl, ap, ◌∙◌, subst, append_assoc, add-zero, mul-le-mul_right, suc-mul, div-add-mod', arith, drop-drop, take-add}
+use Rattle.std.proofs.Common.{◌≡◌, ℕ, zero, suc, ◌+◌, ◌-◌, ◌*◌, ◌/◌, ◌%◌, ◌<◌, ◌≤◌, Bool, true, false, cond, eqb, ltb, List, [], ◌∷◌, ◌++◌, length, get_or, take, drop, set, Some, None, Ok, Err, Option, Result, sym, refl, ap, ◌∙◌, append_assoc, mul-le-mul_right, suc-mul, div-add-mod', arith, drop-drop, take-add}
 use Rattle.std.proofs.lemmas.List.{length-drop, length-take-le, take_all, drop_more, set_at}
 use Rattle.std.proofs.lemmas.Bool.{cond-true, cond-false, eq-eqb, ne_eqb, eqb-true, lt-ltb, le-ltb}
-use Rattle.std.specs.Option.{ok_or, option_map}
+use Rattle.std.specs.Option.{option_map}
 use Rattle.symbols.specs.Answers.{over}
 use Rattle.symbols.specs.Kinds.{read_as}
 use Rattle.symbols.specs.Texts.{before, symbols_from, text_read, counted, symbols_in, text_refusal}

@@ -1,7 +1,7 @@
 -- Writing symbols as a text: one symbol more, and when an area is too short.
-use Rattle.std.proofs.Common.{◌≡◌, ℕ, ◌+◌, ◌-◌, ◌*◌, ◌/◌, ◌<◌, ◌≤◌, ltb, List, [], ◌∷◌, ◌++◌, length, get_or, take, drop, Some, None, Ok, Err, Option, sym, refl, ap, ◌∙◌, append_assoc, div-lt_iff_lt-mul, le-div_iff_mul-le, arith, drop-drop}
+use Rattle.std.proofs.Common.{◌≡◌, ℕ, ◌+◌, ◌-◌, ◌*◌, ◌/◌, ◌<◌, ◌≤◌, ltb, List, [], ◌∷◌, ◌++◌, length, get_or, take, drop, Some, None, Err, Option, sym, ap, ◌∙◌, append_assoc, div-lt_iff_lt-mul, le-div_iff_mul-le, arith, drop-drop}
 use borrow.Rule.Slice.PartMut.{put_mid}
-use Rattle.std.proofs.lemmas.List.{length-take-le, length-drop, take_all, drop_all, take_at, drop_at, take_more, flat_map_more, append-nil}
+use Rattle.std.proofs.lemmas.List.{length-take-le, length-drop, drop_all, take_at, drop_at, take_more, flat_map_more, append-nil}
 use Rattle.std.proofs.lemmas.Bool.{cond-true, cond-false, lt-ltb, le-ltb}
 use Rattle.std.specs.List.{flat_map}
 use Rattle.symbols.specs.Answers.{answered, unless, over}

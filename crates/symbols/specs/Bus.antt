@@ -1,5 +1,5 @@
 -- What bus events mean: three digits of an identifier, a phase, four digits of a value. Assumes nothing.
-use Rattle.std.specs.Prelude.{◌≡◌, ℕ, Bool, true, false, cond, ◌&&◌, List, [], ◌∷◌, ◌++◌, length, take, drop, Some, None, Option, ◌==◌, slice_index, refl}
+use Rattle.std.specs.Prelude.{◌≡◌, ℕ, Bool, true, false, cond, ◌&&◌, List, ◌∷◌, ◌++◌, length, take, drop, Some, None, Option, ◌==◌, slice_index, refl}
 use Rattle.symbols.specs.EventRange.{in_range}
 use Rattle.symbols.specs.Hex.{given, hex_number, hex_digits}
 use Rattle.symbols.specs.declared.bus_event.BusEvent.{BusEvent}

@@ -1,5 +1,5 @@
 -- Bus events: equal parts make equal events, and reading gives back what was written.
-use Rattle.std.specs.Prelude.{◌≡◌, ℕ, suc, ◌+◌, ◌-◌, ◌/◌, ◌%◌, ◌^◌, ◌<◌, ◌≤◌, Bool, true, false, cond, ◌&&◌, List, [], ◌∷◌, ◌++◌, length, take, drop, Some, None, Decides, Option, ◌==◌, nat_lt, slice_index, refl}
+use Rattle.std.specs.Prelude.{◌≡◌, ℕ, suc, ◌/◌, ◌%◌, ◌<◌, Bool, true, false, cond, List, [], ◌∷◌, ◌++◌, length, take, drop, Some, None, Decides, Option, ◌==◌, nat_lt, slice_index, refl}
 use Rattle.std.proofs.Math.Bool.{Bool-set}
 use mathlib.Core.HLevel.{is_prop→PathP}
 use Rattle.std.proofs.Common.{sym, ap, ◌∙◌, arith, length-drop, drop-cons}
@@ -8,11 +8,11 @@ use Rattle.std.proofs.lemmas.Bool.{eqb-true, eq-eqb, ltb-true, both_ways, and_pa
 use Rattle.std.proofs.lemmas.Bool.Decides.{nat_tests}
 use Rattle.symbols.specs.Bus.{phase_char, phase_meant, event, event_of, bus_meant, bus_chars, same_phase, bus_equal}
 use Rattle.symbols.specs.EventRange.{in_range}
-use Rattle.symbols.specs.Hex.{given, hex_digit, hex_number, hex_digits}
+use Rattle.symbols.specs.Hex.{hex_digit, hex_number, hex_digits}
 use Rattle.symbols.specs.declared.bus_event.BusEvent.{BusEvent}
 use Rattle.symbols.specs.declared.bus_event.Phase.{Phase}
 use Rattle.symbols.specs.declared.bus_event.Phase.TheVariants.{Begin, End, Point}
-use Rattle.symbols.specs.HexLaws.{given_some, digits_length, number_of_digits, digits_of_number}
+use Rattle.symbols.specs.HexLaws.{given_some, number_of_digits, digits_of_number}
 
 pub same_parts : (x y : BusEvent) → x.identifier ≡ y.identifier → x.phase ≡ y.phase → x.value ≡ y.value → x ≡ y
 same_parts x y p q r = λ i. record { identifier = p i; phase = q i; value = r i; ranged = is_prop→PathP (λ j. in_range (p j) (r j) ≡ true) (λ j. Bool-set (in_range (p j) (r j)) true) x.ranged y.ranged i }

@@ -1,6 +1,6 @@
 -- Hexadecimal digits: the digits of a number write it, and digits are those of the number that they write.
-use Rattle.std.specs.Prelude.{◌≡◌, ℕ, zero, suc, ◌+◌, ◌-◌, ◌*◌, ◌/◌, ◌%◌, ◌^◌, ◌<◌, ◌≤◌, Bool, true, false, cond, List, [], ◌∷◌, ◌++◌, length, drop, Some, None, Option, slice_index, refl}
-use Rattle.std.proofs.Common.{append_assoc, append-nil, sym, ap, subst, ◌∙◌, pow-suc, mul_assoc, add-one, arith, drop-cons}
+use Rattle.std.specs.Prelude.{◌≡◌, ℕ, zero, suc, ◌+◌, ◌*◌, ◌/◌, ◌%◌, ◌^◌, ◌<◌, ◌≤◌, List, [], ◌∷◌, ◌++◌, length, drop, Some, None, Option, slice_index, refl}
+use Rattle.std.proofs.Common.{append_assoc, append-nil, sym, ap, ◌∙◌, pow-suc, mul_assoc, add-one, arith, drop-cons}
 use Rattle.std.proofs.lemmas.List.{length_push, drop_all}
 use Rattle.std.proofs.lemmas.Bool.Decides.{nat_tests}
 use Rattle.symbols.specs.Hex.{given, hex_value, hex_digit, hex_more, hex_number, hex_digits}

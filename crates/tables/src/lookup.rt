@@ -52,7 +52,7 @@ pub fn find_label(rows: &[Row], chars: &[u8]) -> Option<Next>
     ensures value { result ≡ label_place rows.now chars.now }
     ensures first { First (λ (row : Row). label_spelled chars.now row.label) rows.now (label_number rows.now chars.now) }
 {
-    if chars == b"END" {
+    if chars == b"END".as_slice() {
         return Some(Next::End);
     }
     for i in 0..rows.len() {

@@ -5,29 +5,29 @@ use Rattle.constants.proofs.Areas.{written_none}
 use Rattle.constants.proofs.Loops.{line_step, lines_none}
 use Rattle.constants.proofs.write_constants.Goals as goal
 
-pub write-line-count-requires : goal.write-line-count-requires
-write-line-count-requires g c =
+pub write_line-count-requires : goal.write_line-count-requires
+write_line-count-requires g c =
     let room : length (sheet_symbols g.K.Kind.meant g.K.Kind.wide c.args.text.now) ≤ length c.loop-from.area = omega arith in
-    let s = line_step g.K.Kind.meant g.K.Kind.wide c.args.text.now c.loop-from.from c.line-end-end.result (omega arith) c.line-end-end.ensures.above c.line-end-end.ensures.value _ c.loop-from.count c.loop-from.area c.loop-from.invariant.1 room in
+    let s = line_step g.K.Kind.meant g.K.Kind.wide c.args.text.now c.loop-from.from c.line_end-end.result (omega arith) c.line_end-end.ensures.above c.line_end-end.ensures.value _ c.loop-from.count c.loop-from.area c.loop-from.invariant.1 room in
     let rest = drop c.loop-from.from c.args.text.now in
     record {
-      small = omega (arith, length-take (c.line-end-end.result - c.loop-from.from) rest, length-drop c.loop-from.from c.args.text.now, c.requires.small);
+      small = omega (arith, length-take (c.line_end-end.result - c.loop-from.from) rest, length-drop c.loop-from.from c.args.text.now, c.requires.small);
       room = s.room;
     }
 
-pub overflow-add-count : goal.overflow-add-count
-overflow-add-count g c =
+pub overflow_add-count : goal.overflow_add-count
+overflow_add-count g c =
     let room : length (sheet_symbols g.K.Kind.meant g.K.Kind.wide c.args.text.now) ≤ length c.loop-from.area = omega arith in
-    let s = line_step g.K.Kind.meant g.K.Kind.wide c.args.text.now c.loop-from.from c.line-end-end.result (omega arith) c.line-end-end.ensures.above c.line-end-end.ensures.value _ c.loop-from.count c.loop-from.area c.loop-from.invariant.1 room in
-    omega (arith, s.fits, c.write-line-count.ensures.value)
+    let s = line_step g.K.Kind.meant g.K.Kind.wide c.args.text.now c.loop-from.from c.line_end-end.result (omega arith) c.line_end-end.ensures.above c.line_end-end.ensures.value _ c.loop-from.count c.loop-from.area c.loop-from.invariant.1 room in
+    omega (arith, s.fits, c.write_line-count.ensures.value)
 
 pub loop-from-preserved : goal.loop-from-preserved
 loop-from-preserved g c =
     let room : length (sheet_symbols g.K.Kind.meant g.K.Kind.wide c.args.text.now) ≤ length c.loop-from.area = omega arith in
-    let s = line_step g.K.Kind.meant g.K.Kind.wide c.args.text.now c.loop-from.from c.line-end-end.result (omega arith) c.line-end-end.ensures.above c.line-end-end.ensures.value _ c.loop-from.count c.loop-from.area c.loop-from.invariant.1 room in (
+    let s = line_step g.K.Kind.meant g.K.Kind.wide c.args.text.now c.loop-from.from c.line_end-end.result (omega arith) c.line_end-end.ensures.above c.line_end-end.ensures.value _ c.loop-from.count c.loop-from.area c.loop-from.invariant.1 room in (
       omega arith,
-      s.count c.write-line-count.result c.write-line-count.ensures.value,
-      c.loop-from.invariant.2 ∙ s.left c.write-line-count.result c.write-line-count.new.area c.write-line-count.ensures.value c.write-line-count.ensures.area,
+      s.count c.write_line-count.result c.write_line-count.ensures.value,
+      c.loop-from.invariant.2 ∙ s.left c.write_line-count.result c.write_line-count.new.area c.write_line-count.ensures.value c.write_line-count.ensures.area,
     )
 
 pub returns : goal.returns

@@ -10,7 +10,7 @@ returns-then-wanted-old g c =
     let long : length (take n (drop old.start c.args.area.now)) ≡ n = simp (length-take, length-drop) (omega arith) in
     record {
       before = λ j d h. before_part old.start c.args.area.now _ j d (omega arith) h;
-      behind = λ j d h. turned_right c.args.area.now c.rotate-right.new.self _ old.start old.length c.args.end c.args.wanted j n (c.args.wanted - old.length) d (omega arith) (omega arith) (omega arith) (omega arith) h refl refl (c.rotate-right.ensures.len ∙ long) c.rotate-right.ensures.by_index.1;
+      behind = λ j d h. turned_right c.args.area.now c.rotate_right.new.self _ old.start old.length c.args.end c.args.wanted j n (c.args.wanted - old.length) d (omega arith) (omega arith) (omega arith) (omega arith) h refl refl (c.rotate_right.ensures.len ∙ long) c.rotate_right.ensures.by_index.1;
     }
 
 pub returns : goal.returns
@@ -20,5 +20,5 @@ returns g c =
     let long : length (take n (drop old.start c.args.area.now)) ≡ n = simp (length-take, length-drop) (omega arith) in
     record {
       before = λ j d h. before_part old.start c.args.area.now _ j d (omega arith) h;
-      behind = λ j d h. turned_left c.args.area.now c.rotate-left.new.self _ old.start old.length c.args.end c.args.wanted j n (old.length - c.args.wanted) d (omega arith) (omega arith) (omega arith) h refl refl (c.rotate-left.ensures.len ∙ long) c.rotate-left.ensures.by_index.0;
+      behind = λ j d h. turned_left c.args.area.now c.rotate_left.new.self _ old.start old.length c.args.end c.args.wanted j n (old.length - c.args.wanted) d (omega arith) (omega arith) (omega arith) h refl refl (c.rotate_left.ensures.len ∙ long) c.rotate_left.ensures.by_index.0;
     }

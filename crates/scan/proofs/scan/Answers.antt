@@ -15,6 +15,6 @@ returns g c =
     let constants = c.args.constants.now in
     let es = c.args.elements.now in
     record {
-      value = c.starts.ensures ∙ sym (cond-true (in_range (length constants) es c.args.allowance) (returned (scanned eq role c.args.mode s (pattern constants es) c.args.allowance)) (Err OutOfRange) (sym c.if-not-in-range.ensures));
+      value = c.starts.ensures ∙ sym (cond-true (in_range (length constants) es c.args.allowance) (returned (scanned eq role c.args.mode s (pattern constants es) c.args.allowance)) (Err OutOfRange) (sym c.if-not-in_range.ensures));
       says = subst (AnswerSays role c.args.mode s (pattern constants es) c.args.allowance) (sym c.starts.ensures) (answer_says eq g.met.K.Kind.decides role c.args.mode s (pattern constants es) c.args.allowance);
     }

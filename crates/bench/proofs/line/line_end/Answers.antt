@@ -1,4 +1,4 @@
-use Rattle.std.proofs.Common.{◌≡◌, arith}
+use Rattle.std.proofs.Common.{arith}
 use Rattle.bench.proofs.Lines.{line_stops, line_goes, line_ends}
 use Rattle.bench.proofs.line.line_end.Goals as goal
 

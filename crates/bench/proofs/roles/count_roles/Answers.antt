@@ -1,4 +1,4 @@
-use Rattle.std.proofs.Common.{◌≡◌, length, refl, ap, ◌∙◌, arith}
+use Rattle.std.proofs.Common.{refl, ap, ◌∙◌, arith}
 use Rattle.std.proofs.lemmas.List.{take_all}
 use Rattle.placings.specs.Pattern.{opens, closes, openings, closings}
 use Rattle.bench.proofs.Tallies.{total_more, opens_few, closes_few}
@@ -11,8 +11,8 @@ loop-i-preserved g c =
     let is = c.role-role.ensures in
     let o = total_more (λ y. opens (role y)) (openings role) refl (λ _ _. refl) c.args.symbols.now c.loop-i.i x (omega arith) c.index-symbols-i.is in
     let k = total_more (λ y. closes (role y)) (closings role) refl (λ _ _. refl) c.args.symbols.now c.loop-i.i x (omega arith) c.index-symbols-i.is in
-    let p = c.opened-by-opening.ensures ∙ ap opens is in
-    let q = c.closed-by-closing.ensures ∙ ap closes is in
+    let p = c.opened_by-opening.ensures ∙ ap opens is in
+    let q = c.closed_by-closing.ensures ∙ ap closes is in
     let a = opens_few c.role-role.result in
     let b = closes_few c.role-role.result in
     (omega arith, omega arith, omega arith, omega arith)

@@ -26,6 +26,6 @@ returns g c =
     let area = c.args.area.now in
     let is = taken (length area) s c.if-string-area.false in
     record {
-      answer = ap (λ n. answered None n) c.copy-over.ensures.value ∙ ap (λ o. answered o (length s)) is;
-      area = c.copy-over.ensures.after ∙ ap (λ o. unless o area (over s area)) is;
+      answer = ap (λ n. answered None n) c.copy_over.ensures.value ∙ ap (λ o. answered o (length s)) is;
+      area = c.copy_over.ensures.after ∙ ap (λ o. unless o area (over s area)) is;
     }

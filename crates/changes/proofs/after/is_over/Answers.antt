@@ -8,8 +8,8 @@ use Rattle.changes.proofs.after.is_over.Goals as goal
 pub loop-i-init : goal.loop-i-init
 loop-i-init g c = (omega arith, omega arith, refl)
 
-pub length-after-n-requires : goal.length-after-n-requires
-length-after-n-requires g c =
+pub length_after-n-requires : goal.length_after-n-requires
+length_after-n-requires g c =
     let many = ap (λ (l : Limits). l.names) c.tell-limits.ensures in
     record { sound = c.requires; name = record { low = omega arith; high = omega (arith, c.loop-i-test.true) } }
 
@@ -17,10 +17,10 @@ pub returns-then-n-limits : goal.returns-then-n-limits
 returns-then-n-limits g c =
     let after = written (told c.args.success) (g.S.Store.held c.args.store.now) in
     let l = limited (told c.args.success) (g.S.Store.held c.args.store.now) c.tell-limits.result c.tell-limits.ensures in
-    over_one after c.loop-i.i c.length-after-n.result (omega (arith, l.count, c.loop-i-test.true)) c.length-after-n.ensures c.loop-i.invariant.2 (omega (arith, l.longest, c.if-n-limits.true))
+    over_one after c.loop-i.i c.length_after-n.result (omega (arith, l.count, c.loop-i-test.true)) c.length_after-n.ensures c.loop-i.invariant.2 (omega (arith, l.longest, c.if-n-limits.true))
 
-pub overflow-sub-limits : goal.overflow-sub-limits
-overflow-sub-limits g c =
+pub overflow_sub-limits : goal.overflow_sub-limits
+overflow_sub-limits g c =
     let l = limited (told c.args.success) (g.S.Store.held c.args.store.now) c.tell-limits.result c.tell-limits.ensures in
     omega (arith, l.most, c.loop-i.invariant.0)
 
@@ -28,14 +28,14 @@ pub returns-then-n-limits-2 : goal.returns-then-n-limits-2
 returns-then-n-limits-2 g c =
     let after = written (told c.args.success) (g.S.Store.held c.args.store.now) in
     let l = limited (told c.args.success) (g.S.Store.held c.args.store.now) c.tell-limits.result c.tell-limits.ensures in
-    over_all after c.loop-i.i c.length-after-n.result (omega (arith, l.count, c.loop-i-test.true)) c.length-after-n.ensures c.loop-i.sum c.loop-i.invariant.1 (omega (arith, l.most, c.if-n-limits-2.true, c.loop-i.invariant.0))
+    over_all after c.loop-i.i c.length_after-n.result (omega (arith, l.count, c.loop-i-test.true)) c.length_after-n.ensures c.loop-i.sum c.loop-i.invariant.1 (omega (arith, l.most, c.if-n-limits-2.true, c.loop-i.invariant.0))
 
-pub overflow-add-sum : goal.overflow-add-sum
-overflow-add-sum g c =
+pub overflow_add-sum : goal.overflow_add-sum
+overflow_add-sum g c =
     let small = (g.S.Store.bounds c.args.store.now).small in
     let most = ap (λ (l : Limits). l.most) c.tell-limits.ensures in
     let l = limited (told c.args.success) (g.S.Store.held c.args.store.now) c.tell-limits.result c.tell-limits.ensures in
-    let all : c.loop-i.sum + c.length-after-n.result ≤ 65536 = omega (arith, l.most, c.if-n-limits-2.false, c.loop-i.invariant.0) in
+    let all : c.loop-i.sum + c.length_after-n.result ≤ 65536 = omega (arith, l.most, c.if-n-limits-2.false, c.loop-i.invariant.0) in
     search rules
 
 pub loop-i-preserved : goal.loop-i-preserved
@@ -44,8 +44,8 @@ loop-i-preserved g c =
     let l = limited (told c.args.success) (g.S.Store.held c.args.store.now) c.tell-limits.result c.tell-limits.ensures in
     let lt : c.loop-i.i < length after.strings = omega (arith, l.count, c.loop-i-test.true) in (
       omega (arith, l.most, c.if-n-limits-2.false, c.loop-i.invariant.0),
-      omega (arith, c.loop-i.invariant.1, size_more after c.loop-i.i c.length-after-n.result lt c.length-after-n.ensures),
-      over_more after c.loop-i.i c.length-after-n.result lt c.length-after-n.ensures c.loop-i.invariant.2 (omega (arith, l.longest, c.if-n-limits.false)),
+      omega (arith, c.loop-i.invariant.1, size_more after c.loop-i.i c.length_after-n.result lt c.length_after-n.ensures),
+      over_more after c.loop-i.i c.length_after-n.result lt c.length_after-n.ensures c.loop-i.invariant.2 (omega (arith, l.longest, c.if-n-limits.false)),
     )
 
 pub returns : goal.returns

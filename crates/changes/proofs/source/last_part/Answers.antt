@@ -13,7 +13,7 @@ loop-i-preserved g c =
     let first = c.loop-i.invariant.0 in
     let rise = c.requires.rising i (omega arith) in
     let inside = c.requires.within (suc i) (omega arith) in
-    let found = c.later-found.ensures ∙ ap (λ s. later s c.loop-i.found) c.part-taken-here.ensures in
+    let found = c.later-found.ensures ∙ ap (λ s. later s c.loop-i.found) c.part_taken-here.ensures in
     let more = last_more c.args.name c.loop-i.from i success.items.now success.ends.now _ c.loop-i.found c.loop-i-test.true lt in
     let rest = λ (s : Source). later (last_part c.args.name (get_or success.ends.now i 0) (drop (i + 1) success.items.now) (drop (i + 1) success.ends.now)) s in (
       sym (ap (λ n. get_or (places (told success)) n 0) (add-one i)),

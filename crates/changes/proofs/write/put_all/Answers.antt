@@ -11,14 +11,14 @@ use Rattle.changes.proofs.write.put_all.Goals as goal
 pub loop-i-init : goal.loop-i-init
 loop-i-init g c = refl
 
-pub put-one-requires : goal.put-one-requires
-put-one-requires g c =
+pub put_one-requires : goal.put_one-requires
+put_one-requires g c =
     let names = g.S.Store.held c.args.store.now in
     let i = c.loop-i.i in
     let lt : i < length names.strings = omega (arith, ap (λ (l : Limits). l.names) c.tell-limits.ensures, c.loop-i-test.true) in
     record {
-      cuts = c.source-in-source.ensures.cuts;
-      fits = subst (λ (m : Names g.row.S-Symbol.Denot). Puts m (i + 1) (value (told c.args.success) c.source-in-source.result)) (sym c.loop-i.invariant) (puts_next c.args.pass (told c.args.success) names i lt c.source-in-source.result c.source-in-source.ensures.value c.requires.fits);
+      cuts = c.source_in-source.ensures.cuts;
+      fits = subst (λ (m : Names g.row.S-Symbol.Denot). Puts m (i + 1) (value (told c.args.success) c.source_in-source.result)) (sym c.loop-i.invariant) (puts_next c.args.pass (told c.args.success) names i lt c.source_in-source.result c.source_in-source.ensures.value c.requires.fits);
     }
 
 pub loop-i-preserved : goal.loop-i-preserved
@@ -26,9 +26,9 @@ loop-i-preserved g c =
     let names = g.S.Store.held c.args.store.now in
     let i = c.loop-i.i in
     let lt : i < length names.strings = omega (arith, ap (λ (l : Limits). l.names) c.tell-limits.ensures, c.loop-i-test.true) in
-    c.put-one.ensures
-    ∙ ap (λ m. changed m (i + 1) (value (told c.args.success) c.source-in-source.result)) c.loop-i.invariant
-    ∙ pass_more c.args.pass (told c.args.success) names i lt c.source-in-source.result c.source-in-source.ensures.value
+    c.put_one.ensures
+    ∙ ap (λ m. changed m (i + 1) (value (told c.args.success) c.source_in-source.result)) c.loop-i.invariant
+    ∙ pass_more c.args.pass (told c.args.success) names i lt c.source_in-source.result c.source_in-source.ensures.value
 
 pub returns : goal.returns
 returns g c =

@@ -1,4 +1,4 @@
-use Rattle.std.proofs.Common.{◌≡◌, length, sym, ap, ◌∙◌}
+use Rattle.std.proofs.Common.{length, sym, ap, ◌∙◌}
 use Rattle.symbols.specs.Answers.{answered, unless, over}
 use Rattle.stores.specs.declared.refusal.StoreRefusal.TheVariants.{OutOfRange}
 use Rattle.stores.specs.Names.{under}

@@ -1,4 +1,4 @@
-use Rattle.std.proofs.Common.{◌≡◌, length, ap, ◌∙◌}
+use Rattle.std.proofs.Common.{length, ap, ◌∙◌}
 use Rattle.patterns.proofs.Areas.{part_cut}
 use Rattle.joins.specs.Pieces.{appended, filled}
 use Rattle.joins.proofs.append.append_literal.Goals as goal

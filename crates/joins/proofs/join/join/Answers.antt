@@ -1,4 +1,4 @@
-use Rattle.std.proofs.Common.{◌≡◌, ℕ, ◌+◌, ◌-◌, ◌<◌, ◌≤◌, length, get_or, take, Some, None, sym, refl, ap, ◌∙◌, arith}
+use Rattle.std.proofs.Common.{◌+◌, length, Some, sym, ap, ◌∙◌, arith}
 use Rattle.std.proofs.lemmas.List.{take_all}
 use Rattle.tables.specs.declared.row.Operand.TheVariants.{Literal}
 use Rattle.changes.specs.Success.{told}
@@ -11,8 +11,8 @@ pub loop-i-init : goal.loop-i-init
 unfolding operands_joined
 loop-i-init g c = (c.requires.from, ap Some (sym (appended_nil c.args.from c.args.area.now c.requires.from)))
 
-pub join-one-requires : goal.join-one-requires
-join-one-requires g c =
+pub join_one-requires : goal.join_one-requires
+join_one-requires g c =
     record {
       ready = record {
         sound = c.requires.ready.sound;
@@ -23,8 +23,8 @@ join-one-requires g c =
       at = c.loop-i.invariant.0;
     }
 
-pub returns-in-err-at : goal.returns-in-err-at
-returns-in-err-at g c =
+pub returns-in_err-at : goal.returns-in_err-at
+returns-in_err-at g c =
     let names = names_after (told c.args.success) (g.S.Store.held c.args.store.now) in
     let chars = g.K.Kind.chars in
     let table = c.args.table.now in
@@ -33,9 +33,9 @@ returns-in-err-at g c =
     let t = filled c.args.from c.args.area.now in
     let i = c.loop-i.i in
     let os = c.args.operands.now in
-    rw c.from-residual.ensures record {
+    rw c.from_residual.ensures record {
       value = joins_none chars table constants names l t os (i + 1)
-          (c.in-err-at.ensures.value
+          (c.in_err-at.ensures.value
           ∙ joins_more chars table constants names l (length c.loop-i.area) t (filled c.loop-i.at c.loop-i.area) os i (Literal 0 0) c.loop-i.auto.area c.loop-i-test.true c.loop-i.invariant.1);
       within = tt;
     }
@@ -45,8 +45,8 @@ loop-i-preserved g c =
     let names = names_after (told c.args.success) (g.S.Store.held c.args.store.now) in
     let l = length c.args.area.now in
     let t = filled c.args.from c.args.area.now in (
-      c.in-ok-at.ensures.within,
-      c.in-ok-at.ensures.value
+      c.in_ok-at.ensures.within,
+      c.in_ok-at.ensures.value
           ∙ joins_more g.K.Kind.chars c.args.table.now c.args.constants.now names l (length c.loop-i.area) t (filled c.loop-i.at c.loop-i.area) c.args.operands.now c.loop-i.i (Literal 0 0) c.loop-i.auto.area c.loop-i-test.true c.loop-i.invariant.1,
     )
 

@@ -1,4 +1,4 @@
-use Rattle.std.proofs.Common.{suc, ◌-◌, ◌<◌, ◌≤◌, length, arith}
+use Rattle.std.proofs.Common.{suc, ◌-◌, length, arith}
 use Rattle.joins.proofs.Renewals.{back_some}
 use Rattle.joins.proofs.side.back_kept.Goals as goal
 

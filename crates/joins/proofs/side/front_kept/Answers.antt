@@ -1,4 +1,4 @@
-use Rattle.std.proofs.Common.{◌<◌, ◌≤◌, arith}
+use Rattle.std.proofs.Common.{arith}
 use Rattle.joins.proofs.Renewals.{front_some}
 use Rattle.joins.proofs.side.front_kept.Goals as goal
 

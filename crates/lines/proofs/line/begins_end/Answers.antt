@@ -1,4 +1,4 @@
-use Rattle.std.proofs.Common.{◌≡◌, sym, ◌∙◌, arith}
+use Rattle.std.proofs.Common.{sym, arith}
 use Rattle.lines.proofs.Endings.{four, under_four}
 use Rattle.lines.proofs.line.begins_end.Goals as goal
 

@@ -1,5 +1,4 @@
-use Rattle.std.proofs.Common.{◌≡◌, ℕ, ◌≤◌, length, sym, subst}
-use Rattle.lines.specs.declared.line.Form.{Form}
+use Rattle.std.proofs.Common.{ℕ, ◌≤◌, length, sym, subst}
 use Rattle.lines.specs.Lines.{Says, Longest}
 use Rattle.lines.proofs.Colours.{tokenized}
 use Rattle.lines.proofs.Forms.{says}
@@ -10,7 +9,7 @@ use Rattle.lines.proofs.line.read_line.Goals as goal
 pub returns : goal.returns
 returns c =
     let reach = c.walk-walked.ensures.reach in
-    let form = c.line-form.ensures in
+    let form = c.line_form.ensures in
     record {
       reach = reach;
       within = subst (λ (n : ℕ). n ≤ length c.args.line.now) (sym reach) (longest_within c.args.line.now);

@@ -1,5 +1,5 @@
-use Rattle.std.proofs.Common.{◌≡◌, ◌<◌, true, false, length, get_or, Some, None, sym, refl, ◌∙◌, arith}
-use Rattle.lines.specs.Lines.{longest, is_statement}
+use Rattle.std.proofs.Common.{◌≡◌, ◌<◌, length, get_or, Some, None, sym, refl, ◌∙◌, arith}
+use Rattle.lines.specs.Lines.{longest}
 use Rattle.lines.specs.Marks.{mark_of}
 use Rattle.lines.specs.Next.{next}
 use Rattle.lines.proofs.Walk.{goes_on, stops, ends, statement_lands, lands_more, lands_stop, lands_end}

@@ -1,5 +1,4 @@
 use Rattle.std.proofs.Common.{◌≡◌, ◌+◌, drop}
-use Rattle.lines.specs.declared.reading.Reading.{Reading}
 use Rattle.lines.specs.Next.{beginning}
 use Rattle.lines.proofs.Walk.{walk, lands}
 use Rattle.lines.proofs.line.walk.Given as goal

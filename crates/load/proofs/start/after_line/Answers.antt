@@ -10,10 +10,10 @@ pub loop-taken-preserved : goal.loop-taken-preserved
 loop-taken-preserved c = (
   c.in-Some.ensures.within,
   token_on (map (part_of c.args.text.now) c.args.labels.now) c.args.line.now c.loop-taken.reading c.loop-taken.at
-      _ c.loop-taken.start c.loop-taken.invariant.1 c.in-Some.taken c.in-Some.ensures c.after-token-start.result c.after-token-start.ensures,
+      _ c.loop-taken.start c.loop-taken.invariant.1 c.in-Some.taken c.in-Some.ensures c.after_token-start.result c.after_token-start.ensures,
 )
 
 pub returns : goal.returns
 returns c =
     tokens_done (map (part_of c.args.text.now) c.args.labels.now) c.args.line.now c.loop-taken.reading c.loop-taken.at
-    _ c.loop-taken.start c.loop-taken.invariant.1 c.in-default.ensures
+    _ c.loop-taken.start c.loop-taken.invariant.1 c.in_default.ensures

@@ -7,8 +7,8 @@ pub loop-from-preserved : goal.loop-from-preserved
 loop-from-preserved c = (
   omega arith,
   line_on (map (part_of c.args.text.now) c.args.labels.now) c.args.text.now c.loop-from.from _ c.loop-from.start c.loop-from.invariant.1
-      c.line-end-end.result (omega arith) c.line-end-end.ensures.above c.line-end-end.ensures.value
-      c.after-line-start.result c.after-line-start.ensures,
+      c.line_end-end.result (omega arith) c.line_end-end.ensures.above c.line_end-end.ensures.value
+      c.after_line-start.result c.after_line-start.ensures,
 )
 
 pub returns : goal.returns

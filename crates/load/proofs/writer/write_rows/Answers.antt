@@ -5,39 +5,39 @@ use Rattle.load.specs.Rows.{has_row}
 use Rattle.load.proofs.RowPuts.{line_size, at_most_one, row_room, count_on, put_on, put, put_front_over, put_none, rows_end}
 use Rattle.load.proofs.writer.write_rows.Goals as goal
 
-pub put-row-count-requires : goal.put-row-count-requires
-put-row-count-requires g c =
+pub put_row-count-requires : goal.put_row-count-requires
+put_row-count-requires g c =
     record {
-      room = row_room g.K.Kind.meant g.K.Kind.wide (map (part_of c.args.text.now) c.args.names.now) (map (part_of c.args.text.now) c.args.labels.now) c.args.text.now c.loop-from.from c.line-end-end.result c.loop-from.stored
-          (omega arith) c.line-end-end.ensures.above c.line-end-end.ensures.within c.line-end-end.ensures.value
-          c.read-row-filled.result.row c.read-row-filled.result.symbols c.read-row-filled.ensures.row c.read-row-filled.ensures.symbols
+      room = row_room g.K.Kind.meant g.K.Kind.wide (map (part_of c.args.text.now) c.args.names.now) (map (part_of c.args.text.now) c.args.labels.now) c.args.text.now c.loop-from.from c.line_end-end.result c.loop-from.stored
+          (omega arith) c.line_end-end.ensures.above c.line_end-end.ensures.within c.line_end-end.ensures.value
+          c.read_row-filled.result.row c.read_row-filled.result.symbols c.read_row-filled.ensures.row c.read_row-filled.ensures.symbols
           c.loop-from.count _ c.loop-from.rows c.loop-from.invariant.3 (omega (arith, c.loop-from.auto.rows, c.requires.room));
       few = let a = c.loop-from.invariant.2 in let b = c.loop-from.invariant.0 in omega (arith, a, b, c.requires.small);
     }
 
 pub loop-from-preserved : goal.loop-from-preserved
 loop-from-preserved g c =
-    let size = line_size g.K.Kind.meant g.K.Kind.wide (map (part_of c.args.text.now) c.args.names.now) (map (part_of c.args.text.now) c.args.labels.now) c.args.text.now c.loop-from.from c.line-end-end.result c.loop-from.stored
-    (omega arith) c.line-end-end.ensures.above c.line-end-end.ensures.within c.line-end-end.ensures.value in
-    let few = c.read-row-filled.ensures.few in
-    let one = at_most_one (has_row (take (c.line-end-end.result - c.loop-from.from) (drop c.loop-from.from c.args.text.now))) c.loop-from.count in
-    let value = c.put-row-count.ensures.value in (
+    let size = line_size g.K.Kind.meant g.K.Kind.wide (map (part_of c.args.text.now) c.args.names.now) (map (part_of c.args.text.now) c.args.labels.now) c.args.text.now c.loop-from.from c.line_end-end.result c.loop-from.stored
+    (omega arith) c.line_end-end.ensures.above c.line_end-end.ensures.within c.line_end-end.ensures.value in
+    let few = c.read_row-filled.ensures.few in
+    let one = at_most_one (has_row (take (c.line_end-end.result - c.loop-from.from) (drop c.loop-from.from c.args.text.now))) c.loop-from.count in
+    let value = c.put_row-count.ensures.value in (
       omega arith,
       omega (arith, size, few),
       omega (arith, one, value),
-      count_on g.K.Kind.meant g.K.Kind.wide (map (part_of c.args.text.now) c.args.names.now) (map (part_of c.args.text.now) c.args.labels.now) c.args.text.now c.loop-from.from c.line-end-end.result c.loop-from.stored
-          (omega arith) c.line-end-end.ensures.above c.line-end-end.ensures.within c.line-end-end.ensures.value
-          c.read-row-filled.result.row c.read-row-filled.result.symbols c.read-row-filled.ensures.row c.read-row-filled.ensures.symbols
-          c.loop-from.count c.put-row-count.result c.loop-from.rows c.put-row-count.new.rows c.put-row-count.ensures.value c.put-row-count.ensures.rows
+      count_on g.K.Kind.meant g.K.Kind.wide (map (part_of c.args.text.now) c.args.names.now) (map (part_of c.args.text.now) c.args.labels.now) c.args.text.now c.loop-from.from c.line_end-end.result c.loop-from.stored
+          (omega arith) c.line_end-end.ensures.above c.line_end-end.ensures.within c.line_end-end.ensures.value
+          c.read_row-filled.result.row c.read_row-filled.result.symbols c.read_row-filled.ensures.row c.read_row-filled.ensures.symbols
+          c.loop-from.count c.put_row-count.result c.loop-from.rows c.put_row-count.new.rows c.put_row-count.ensures.value c.put_row-count.ensures.rows
           _ c.loop-from.invariant.3,
-      put_on g.K.Kind.meant g.K.Kind.wide (map (part_of c.args.text.now) c.args.names.now) (map (part_of c.args.text.now) c.args.labels.now) c.args.text.now c.loop-from.from c.line-end-end.result c.loop-from.stored
-          (omega arith) c.line-end-end.ensures.above c.line-end-end.ensures.within c.line-end-end.ensures.value
-          c.read-row-filled.result.row c.read-row-filled.result.symbols c.read-row-filled.ensures.row c.read-row-filled.ensures.symbols
-          c.loop-from.count c.put-row-count.result c.loop-from.rows c.put-row-count.new.rows c.put-row-count.ensures.value c.put-row-count.ensures.rows
+      put_on g.K.Kind.meant g.K.Kind.wide (map (part_of c.args.text.now) c.args.names.now) (map (part_of c.args.text.now) c.args.labels.now) c.args.text.now c.loop-from.from c.line_end-end.result c.loop-from.stored
+          (omega arith) c.line_end-end.ensures.above c.line_end-end.ensures.within c.line_end-end.ensures.value
+          c.read_row-filled.result.row c.read_row-filled.result.symbols c.read_row-filled.ensures.row c.read_row-filled.ensures.symbols
+          c.loop-from.count c.put_row-count.result c.loop-from.rows c.put_row-count.new.rows c.put_row-count.ensures.value c.put_row-count.ensures.rows
           _ c.loop-from.invariant.4
-          (row_room g.K.Kind.meant g.K.Kind.wide (map (part_of c.args.text.now) c.args.names.now) (map (part_of c.args.text.now) c.args.labels.now) c.args.text.now c.loop-from.from c.line-end-end.result c.loop-from.stored
-          (omega arith) c.line-end-end.ensures.above c.line-end-end.ensures.within c.line-end-end.ensures.value
-          c.read-row-filled.result.row c.read-row-filled.result.symbols c.read-row-filled.ensures.row c.read-row-filled.ensures.symbols
+          (row_room g.K.Kind.meant g.K.Kind.wide (map (part_of c.args.text.now) c.args.names.now) (map (part_of c.args.text.now) c.args.labels.now) c.args.text.now c.loop-from.from c.line_end-end.result c.loop-from.stored
+          (omega arith) c.line_end-end.ensures.above c.line_end-end.ensures.within c.line_end-end.ensures.value
+          c.read_row-filled.result.row c.read_row-filled.result.symbols c.read_row-filled.ensures.row c.read_row-filled.ensures.symbols
           c.loop-from.count _ c.loop-from.rows c.loop-from.invariant.3 (omega (arith, c.loop-from.auto.rows, c.requires.room))),
     )
 

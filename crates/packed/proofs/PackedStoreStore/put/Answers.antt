@@ -4,15 +4,15 @@ use Rattle.stores.proofs.Calls.{put_refused, put_long}
 use Rattle.packed.proofs.Packs.{pack_inside, pack_over, pack_takes, pack_leaves}
 use Rattle.packed.proofs.PackedStoreStore.put.Goals as goal
 
-pub returns-in-err-old : goal.returns-in-err-old
-returns-in-err-old g c =
-    let p = err_from_is_err_and c.from-residual.result c.from-residual.ensures.1 in
-    let refused = put_refused _ c.args.number c.args.string.now _ c.in-err-old.ensures in
+pub returns-in_err-old : goal.returns-in_err-old
+returns-in_err-old g c =
+    let p = err_from_is_err_and c.from_residual.result c.from_residual.ensures.1 in
+    let refused = put_refused _ c.args.number c.args.string.now _ c.in_err-old.ensures in
     record { answer = rw (p.1, p.2, refused); after = rw refused; named = refl }
 
 pub returns-then-string-self : goal.returns-then-string-self
 returns-then-string-self g c =
-    let ok = c.in-ok-old.ensures.lies.accepts in
+    let ok = c.in_ok-old.ensures.lies.accepts in
     let is = (pack_inside c.args.self.now c.args.number ok).is in
     let long : c.args.self.now.longest < length c.args.string.now = omega arith in
     let refused = put_long _ c.args.number ok c.args.string.now (rw is long) in
@@ -20,7 +20,7 @@ returns-then-string-self g c =
 
 pub returns-then-string-self-2 : goal.returns-then-string-self-2
 returns-then-string-self-2 g c =
-    let found = c.in-ok-old.ensures in
+    let found = c.in_ok-old.ensures in
     let refused = pack_over c.args.self.now c.args.number found.lies.accepts _ found c.args.string.now _ c.total-end.ensures (omega arith) in
     record { answer = rw refused; after = rw refused; named = refl }
 
@@ -28,10 +28,10 @@ pub returns : goal.returns
 returns g c =
     let self = c.args.self.now in
     let string = c.args.string.now in
-    let found = c.in-ok-old.ensures in
+    let found = c.in_ok-old.ensures in
     let ok = found.lies.accepts in
     let le : length string ≤ self.longest = omega arith in
-    let room : length string ≤ self.most - (c.total-end.result - c.in-ok-old.old.length) = omega arith in
+    let room : length string ≤ self.most - (c.total-end.result - c.in_ok-old.old.length) = omega arith in
     let accepted = pack_takes self c.args.number ok _ found string _ c.total-end.ensures le room in
-    let leaves = pack_leaves self c.args.number ok _ found string c.make-room.new.area c.write-at.new.area _ _ c.total-end.ensures le room (search rules) c.make-room.auto.area c.make-room.ensures.before c.make-room.ensures.behind c.write-at.ensures refl in
+    let leaves = pack_leaves self c.args.number ok _ found string c.make_room.new.area c.write_at.new.area _ _ c.total-end.ensures le room (search rules) c.make_room.auto.area c.make_room.ensures.before c.make_room.ensures.behind c.write_at.ensures refl in
     record { answer = rw accepted; after = rw accepted leaves; named = refl }

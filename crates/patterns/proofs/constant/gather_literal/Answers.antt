@@ -1,7 +1,6 @@
-use Rattle.std.proofs.Common.{◌≡◌, ◌+◌, ◌-◌, ◌<◌, ◌≤◌, length, take, drop, Some, sym, refl, ap, ◌∙◌, arith}
+use Rattle.std.proofs.Common.{◌-◌, ◌<◌, length, take, drop, Some, sym, refl, ap, arith}
 use Rattle.std.proofs.lemmas.List.{length-take, length-drop}
-use Rattle.placings.specs.Pattern.{constant, part}
-use Rattle.patterns.specs.Fitted.{fit}
+use Rattle.placings.specs.Pattern.{part}
 use Rattle.patterns.proofs.Areas.{part_cut}
 use Rattle.patterns.proofs.Fits.{fit_long}
 use Rattle.patterns.proofs.Gathers.{gathers_within}
@@ -26,5 +25,5 @@ returns g c =
     let start = c.min-start.result in
     let end = c.min-end.result in
     let cut = part_cut xs c.args.from c.args.to start end c.min-end.ensures c.min-start.ensures in
-    λ i. gathers_within c.args.longest c.args.used i c.args.area.now c.put-constant.new.area (take (end - start) (drop start xs)) (part xs c.args.from c.args.to) c.put-constant.result
-    (omega (arith, length-take (end - start) (drop start xs))) cut (c.put-constant.ensures i)
+    λ i. gathers_within c.args.longest c.args.used i c.args.area.now c.put_constant.new.area (take (end - start) (drop start xs)) (part xs c.args.from c.args.to) c.put_constant.result
+    (omega (arith, length-take (end - start) (drop start xs))) cut (c.put_constant.ensures i)

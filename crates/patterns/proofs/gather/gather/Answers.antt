@@ -16,17 +16,17 @@ pub returns : goal.returns
 returns g c =
     let names = g.S.Store.held c.args.store.now in
     let row = c.args.pattern.now in
-    let area = c.gather-items.new.area in
+    let area = c.gather_items.new.area in
     let wanted = resolved g.K.Kind.chars c.args.table.now c.args.constants.now names (items_in row) in
     let limit = ap (λ (t : Limits). t.longest) c.tell-longest.ensures in
     let count : c.min-count.result - 0 ≡ min row.count 8 = omega (arith, c.min-count.ensures) in
     let are : take (c.min-count.result - 0) row.items ≡ items_in row = ap (λ k. take k row.items) count ∙ take_min row.count 8 row.items (search rules) in
-    let ByItems : List Item → Type 0 = λ items. GathersAll names.longest area (resolved g.K.Kind.chars c.args.table.now c.args.constants.now names items) c.gather-items.result in
-    let all : ByItems (items_in row) = subst ByItems are c.gather-items.ensures in
+    let ByItems : List Item → Type 0 = λ items. GathersAll names.longest area (resolved g.K.Kind.chars c.args.table.now c.args.constants.now names items) c.gather_items.result in
+    let all : ByItems (items_in row) = subst ByItems are c.gather_items.ensures in
     let ByAnswer : Result Gathered PatternRefusal → Type 0 = Served names.longest area wanted in
     let room : 8 * names.longest ≤ length c.args.area.now = omega arith in
     record {
-      value = ap (gathered area) c.ok-or.ensures.value ∙ gathers_answer names.longest area wanted c.gather-items.result all
+      value = ap (gathered area) c.ok_or.ensures.value ∙ gathers_answer names.longest area wanted c.gather_items.result all
           ∙ sym (cond-false (ltb (length c.args.area.now) (8 * names.longest)) (Err ShortArea) (fitted_or names.longest wanted) (le-ltb _ _ room));
-      serves = subst ByAnswer (sym c.ok-or.ensures.value) (gathers_serve names.longest area wanted c.gather-items.result all);
+      serves = subst ByAnswer (sym c.ok_or.ensures.value) (gathers_serve names.longest area wanted c.gather_items.result all);
     }

@@ -1,12 +1,12 @@
-use Rattle.std.proofs.Common.{◌≡◌, ℕ, ◌+◌, ◌-◌, ◌*◌, ◌<◌, ◌≤◌, true, List, [], ◌∷◌, ◌++◌, length, get_or, take, drop, set, Some, None, sym, refl, ap, ◌∙◌, subst, mul-le-mul_right, suc-mul, add-one, arith, length-set}
+use Rattle.std.proofs.Common.{◌≡◌, ◌+◌, ◌-◌, ◌*◌, ◌<◌, ◌≤◌, true, [], ◌∷◌, ◌++◌, length, get_or, take, set, Some, sym, refl, ap, ◌∙◌, mul-le-mul_right, suc-mul, add-one, arith, length-set}
 use native.Mathlib.Nat.{sub-zero}
 use Rattle.std.specs.Option.{option_map}
 use Rattle.std.proofs.lemmas.List.{take_more_set, map_push, length-take-le}
 use Rattle.scan.specs.Elements.{stands, pattern, fits, all_fit}
 use Rattle.tables.specs.declared.row.Item.TheVariants.{Operand}
 use Rattle.tables.specs.declared.row.Operand.TheVariants.{Literal}
-use Rattle.patterns.specs.Fitted.{fit, fitted}
-use Rattle.patterns.specs.Resolved.{item_element, resolved}
+use Rattle.patterns.specs.Fitted.{fit}
+use Rattle.patterns.specs.Resolved.{item_element}
 use Rattle.patterns.proofs.Gathers.{prepended, prepended_nil, to_come, comes_first, comes_some, comes_none, comes_last, all_fit_more, all_fit_push, pattern_before, room_for_one}
 use Rattle.patterns.proofs.gather.gather_items.Goals as goal
 
@@ -16,20 +16,20 @@ loop-i-init g c =
     let names = g.S.Store.held c.args.store.now in
     (omega arith, refl, refl, comes_first g.K.Kind.chars c.args.table.now c.args.constants.now names names.longest c.args.items.now ∙ prepended_nil _)
 
-pub gather-item-requires : goal.gather-item-requires
-gather-item-requires g c =
+pub gather_item-requires : goal.gather_item-requires
+gather_item-requires g c =
     let l = (g.S.Store.held c.args.store.now).longest in
     let lt8 : c.loop-i.i < 8 = omega (arith, c.requires.few, c.loop-i-test.true) in
     room_for_one l c.loop-i.i c.loop-i.used (length c.loop-i.area) lt8 c.loop-i.invariant.0 (omega (arith, c.requires.room, c.loop-i.auto.area))
 
-pub returns-in-err-element : goal.returns-in-err-element
-returns-in-err-element g c =
+pub returns-in_err-element : goal.returns-in_err-element
+returns-in_err-element g c =
     let names = g.S.Store.held c.args.store.now in
     let items = c.args.items.now in
     let i = c.loop-i.i in
     let chars = g.K.Kind.chars in
-    let found = c.in-err-element.ensures.value ∙ ap (λ n. option_map (fit names.longest) (item_element chars c.args.table.now c.args.constants.now names (take n items) (get_or items i (Operand (Literal 0 0))))) (sub-zero i) in
-    rw c.from-residual.ensures record {
+    let found = c.in_err-element.ensures.value ∙ ap (λ n. option_map (fit names.longest) (item_element chars c.args.table.now c.args.constants.now names (take n items) (get_or items i (Operand (Literal 0 0))))) (sub-zero i) in
+    rw c.from_residual.ensures record {
       value = sym (c.loop-i.invariant.3 ∙ comes_none chars c.args.table.now c.args.constants.now names names.longest items i (Operand (Literal 0 0)) (pattern c.loop-i.area (take i c.loop-i.elements)) c.loop-i-test.true found);
       fitting = tt;
     }
@@ -39,14 +39,14 @@ loop-i-preserved g c =
     let names = g.S.Store.held c.args.store.now in
     let items = c.args.items.now in
     let i = c.loop-i.i in
-    let e = c.in-ok-element.element in
+    let e = c.in_ok-element.element in
     let elements = c.loop-i.elements in
-    let area = c.gather-item.new.area in
-    let used = c.end-with-used.result in
+    let area = c.gather_item.new.area in
+    let used = c.end_with-used.result in
     let chars = g.K.Kind.chars in
     let inv = c.loop-i.invariant in
-    let gathers = c.in-ok-element.ensures in
-    let ends = c.end-with-used.ensures in
+    let gathers = c.in_ok-element.ensures in
+    let ends = c.end_with-used.ensures in
     let more : c.loop-i.used ≤ used = omega (arith, gathers.adds.more) in
     let few : used ≤ c.loop-i.used + names.longest = omega (arith, gathers.adds.few) in
     let lt : i < length elements = omega (arith, inv.1, c.requires.few, c.loop-i-test.true) in

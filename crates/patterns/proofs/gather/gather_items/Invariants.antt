@@ -1,4 +1,4 @@
-use Rattle.std.proofs.Common.{◌≡◌, ◌*◌, ◌≤◌, true, [], length, take}
+use Rattle.std.proofs.Common.{◌≡◌, ◌*◌, ◌≤◌, true, length, take}
 use Rattle.std.specs.Option.{option_map}
 use Rattle.scan.specs.Elements.{pattern, all_fit}
 use Rattle.patterns.specs.Fitted.{fitted}

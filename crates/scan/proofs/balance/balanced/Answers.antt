@@ -9,4 +9,4 @@ pub returns-in-Opening : goal.returns-in-Opening
 returns-in-Opening g c = balanced_opening _ _ _ _ _ c.if-begin-subject.false c.index-subject-begin.is (sym c.in-Opening.ensures) c.group_end.ensures
 
 pub returns : goal.returns
-returns g c = balanced_closing _ _ _ _ c.if-begin-subject.false c.index-subject-begin.is (sym c.role-role.ensures ∙ closing_is _ c.in-default.not-Plain c.in-default-role.not-Opening)
+returns g c = balanced_closing _ _ _ _ c.if-begin-subject.false c.index-subject-begin.is (sym c.role-role.ensures ∙ closing_is _ c.in_default.not-Plain c.in_default-role.not-Opening)

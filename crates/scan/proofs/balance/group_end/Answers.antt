@@ -7,11 +7,11 @@ use Rattle.scan.proofs.balance.group_end.Goals as goal
 pub loop-e-init : goal.loop-e-init
 loop-e-init g c = walk_none _ _ _ (omega arith) (omega arith)
 
-pub overflow-sub-open : goal.overflow-sub-open
-overflow-sub-open g c = omega arith
+pub overflow_sub-open : goal.overflow_sub-open
+overflow_sub-open g c = omega arith
 
-pub overflow-add-open : goal.overflow-add-open
-overflow-add-open g c = let few : c.loop-e.open + 1 ≤ length c.args.subject.now = omega arith in search rules
+pub overflow_add-open : goal.overflow_add-open
+overflow_add-open g c = let few : c.loop-e.open + 1 ≤ length c.args.subject.now = omega arith in search rules
 
 pub returns-then-open-eq0 : goal.returns-then-open-eq0
 returns-then-open-eq0 g c =
@@ -29,7 +29,7 @@ loop-e-preserved-in-Opening g c =
 
 pub loop-e-preserved : goal.loop-e-preserved
 loop-e-preserved g c =
-    walk_more _ _ _ _ _ _ _ c.loop-e-test.true c.index-subject-e.is (moves_by Plain _ _ _ (sym c.role-role.ensures ∙ plain_is _ c.in-default.not-Closing c.in-default-role.not-Opening) refl) c.loop-e.invariant (omega arith)
+    walk_more _ _ _ _ _ _ _ c.loop-e-test.true c.index-subject-e.is (moves_by Plain _ _ _ (sym c.role-role.ensures ∙ plain_is _ c.in_default.not-Closing c.in_default-role.not-Opening) refl) c.loop-e.invariant (omega arith)
 
 pub returns : goal.returns
 returns g c = walk_all _ _ _ _ _ c.loop-e-test.false c.loop-e.invariant
@@ -38,4 +38,4 @@ pub loop-e-preserved-then-n-e-ge-BLOCK : goal.loop-e-preserved-then-n-e-ge-BLOCK
 loop-e-preserved-then-n-e-ge-BLOCK g c =
     let role = g.K.Kind.acts c.args.kind.now in
     let s = c.args.subject.now in
-    subst (Walk role s c.args.from (c.loop-e.e + 64)) (sym c.pass-block-open.ensures) (walk_far role s c.args.from c.loop-e.e c.loop-e.open 64 c.if-open-gt-BLOCK.true (omega arith) c.loop-e.invariant)
+    subst (Walk role s c.args.from (c.loop-e.e + 64)) (sym c.pass_block-open.ensures) (walk_far role s c.args.from c.loop-e.e c.loop-e.open 64 c.if-open-gt-BLOCK.true (omega arith) c.loop-e.invariant)

@@ -7,16 +7,16 @@ use Rattle.scan.proofs.balance.pass_block.Goals as goal
 pub tally-opened-requires : goal.tally-opened-requires
 tally-opened-requires g c = omega (arith, length_part c.args.subject.now c.args.from (c.args.from + 64) (omega arith) (omega arith))
 
-pub overflow-add-result : goal.overflow-add-result
-overflow-add-result g c =
+pub overflow_add-result : goal.overflow_add-result
+overflow_add-result g c =
     let few = openings_few (g.K.Kind.acts c.args.kind.now) (part c.args.subject.now c.args.from (c.args.from + 64)) in
     let long = length_part c.args.subject.now c.args.from (c.args.from + 64) (omega arith) (omega arith) in
     let is = c.tally-opened.ensures.opened in
     let h : c.args.before + c.tally-opened.result.0 ≤ length c.args.subject.now = omega arith in
     search rules
 
-pub overflow-sub-result : goal.overflow-sub-result
-overflow-sub-result g c =
+pub overflow_sub-result : goal.overflow_sub-result
+overflow_sub-result g c =
     let few = closings_few (g.K.Kind.acts c.args.kind.now) (part c.args.subject.now c.args.from (c.args.from + 64)) in
     let long = length_part c.args.subject.now c.args.from (c.args.from + 64) (omega arith) (omega arith) in
     let is = c.tally-opened.ensures.closed in

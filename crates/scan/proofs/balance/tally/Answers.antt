@@ -1,20 +1,20 @@
-use Rattle.std.proofs.Common.{◌≡◌, ◌+◌, ◌<◌, ◌≤◌, length, take, sym, ap, ◌∙◌, arith}
+use Rattle.std.proofs.Common.{◌+◌, ◌<◌, ◌≤◌, length, take, ap, ◌∙◌, arith}
 use mir.Facts.{Fits-below}
 use Rattle.std.proofs.lemmas.List.{length-take-le, take_all}
 use Rattle.placings.specs.Pattern.{openings, closings, opens, closes}
 use Rattle.scan.proofs.Blocks.{opens_one, closes_one, openings_more, closings_more, openings_few, closings_few}
 use Rattle.scan.proofs.balance.tally.Goals as goal
 
-pub overflow-add-opened : goal.overflow-add-opened
-overflow-add-opened g c =
+pub overflow_add-opened : goal.overflow_add-opened
+overflow_add-opened g c =
     let few = openings_few (g.K.Kind.acts c.args.kind.now) (take c.loop-i.i c.args.block.now) in
     let long = length-take-le c.loop-i.i c.args.block.now (omega arith) in
     let one = opens_one c.role-role.result in
     let h : c.loop-i.opened + c.opening-opened.result ≤ 64 = omega arith in
     Fits-below {n = 64} tt h
 
-pub overflow-add-closed : goal.overflow-add-closed
-overflow-add-closed g c =
+pub overflow_add-closed : goal.overflow_add-closed
+overflow_add-closed g c =
     let few = closings_few (g.K.Kind.acts c.args.kind.now) (take c.loop-i.i c.args.block.now) in
     let long = length-take-le c.loop-i.i c.args.block.now (omega arith) in
     let one = closes_one c.role-role.result in

@@ -10,11 +10,11 @@ use Rattle.scan.proofs.range.elements_fit.Goals as goal
 pub loop-i-preserved : goal.loop-i-preserved
 loop-i-preserved c =
     c.loop-i.invariant ∙ fit_more c.args.constants c.loop-i.i c.args.elements.now (Compared (Constant 0 0)) c.loop-i-test.true
-    ∙ ap (λ b. b && all_fit c.args.constants (c.loop-i.i + 1) (drop (c.loop-i.i + 1) c.args.elements.now)) (sym c.if-not-element-fits.ensures)
+    ∙ ap (λ b. b && all_fit c.args.constants (c.loop-i.i + 1) (drop (c.loop-i.i + 1) c.args.elements.now)) (sym c.if-not-element_fits.ensures)
 
-pub returns-then-not-element-fits : goal.returns-then-not-element-fits
-returns-then-not-element-fits c =
-    sym (c.loop-i.invariant ∙ fit_more c.args.constants c.loop-i.i c.args.elements.now (Compared (Constant 0 0)) c.loop-i-test.true ∙ and_left _ _ (sym c.if-not-element-fits.ensures))
+pub returns-then-not-element_fits : goal.returns-then-not-element_fits
+returns-then-not-element_fits c =
+    sym (c.loop-i.invariant ∙ fit_more c.args.constants c.loop-i.i c.args.elements.now (Compared (Constant 0 0)) c.loop-i-test.true ∙ and_left _ _ (sym c.if-not-element_fits.ensures))
 
 pub returns : goal.returns
 unfolding all_fit

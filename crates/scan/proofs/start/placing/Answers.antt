@@ -7,5 +7,5 @@ use Rattle.scan.proofs.start.placing.Goals as goal
 pub returns : goal.returns
 returns c =
     let a : length (take c.args.count (ends c.args.rows.now)) ≡ c.args.count = length-take-le c.args.count (ends c.args.rows.now) (omega (arith, length-map c.args.rows.now (λ (row : Row). row.end))) in
-    let b = c.row-ends.ensures in
+    let b = c.row_ends.ensures in
     cc

@@ -19,14 +19,14 @@ pub loop-e-preserved : goal.loop-e-preserved
 loop-e-preserved g c = walking_resumed c.loop-e.invariant c.enter.result c.enter.new.row c.compared-other.ensures c.enter.ensures.end c.enter.ensures.after c.retreat.new.rows c.in-Back.ensures c.in-At.j c.in-At.e c.in-At.ensures
 
 -- a walk back ends at a row before, with a trial left
-pub overflow-sub-left-in-At : goal.overflow-sub-left-in-At
-overflow-sub-left-in-At g c = let h = walking_before c.loop-e.invariant c.enter.result c.enter.new.row c.compared-other.ensures c.enter.ensures.end c.enter.ensures.after c.retreat.new.rows c.in-At.j c.in-At.e c.in-At.ensures in omega arith
+pub overflow_sub-left-in-At : goal.overflow_sub-left-in-At
+overflow_sub-left-in-At g c = let h = walking_before c.loop-e.invariant c.enter.result c.enter.new.row c.compared-other.ensures c.enter.ensures.end c.enter.ensures.after c.retreat.new.rows c.in-At.j c.in-At.e c.in-At.ensures in omega arith
 
 pub loop-e-smaller : goal.loop-e-smaller
 loop-e-smaller g c = let h = walking_before c.loop-e.invariant c.enter.result c.enter.new.row c.compared-other.ensures c.enter.ensures.end c.enter.ensures.after c.retreat.new.rows c.in-At.j c.in-At.e c.in-At.ensures in omega arith
 
-pub overflow-add-i-in-At : goal.overflow-add-i-in-At
-overflow-add-i-in-At g c =
+pub overflow_add-i-in-At : goal.overflow_add-i-in-At
+overflow_add-i-in-At g c =
     let h = walking_before c.loop-e.invariant c.enter.result c.enter.new.row c.compared-other.ensures c.enter.ensures.end c.enter.ensures.after c.retreat.new.rows c.in-At.j c.in-At.e c.in-At.ensures in
     let short = c.loop-e.invariant.onward.short in
     let few = c.loop-e.invariant.few in

@@ -1,6 +1,5 @@
-use Rattle.std.proofs.Common.{◌≡◌, ◌-◌, min, List, length, take, sym, refl, ap, ◌∙◌, arith, rules}
+use Rattle.std.proofs.Common.{◌≡◌, ◌-◌, min, List, length, take, refl, ap, ◌∙◌, arith}
 use Rattle.tables.specs.declared.row.Row.{Row}
-use Rattle.tables.specs.Tables.{Tabled}
 use Rattle.tables.proofs.Lookups.{take_min}
 use Rattle.session.proofs.step.listing.Goals as goal
 

@@ -1,4 +1,4 @@
-use Rattle.std.proofs.Common.{◌≡◌, sym, ap, arith, rules}
+use Rattle.std.proofs.Common.{◌≡◌, sym, ap, arith}
 use Rattle.session.specs.Steps.{row_of}
 use Rattle.session.proofs.Rows.{row_some, row_past}
 use Rattle.session.proofs.step.row_of.Goals as goal

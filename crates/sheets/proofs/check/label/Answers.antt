@@ -6,6 +6,6 @@ use Rattle.sheets.proofs.check.label.Goals as goal
 pub returns : goal.returns
 unfolding label
 returns c =
-    let v = c.label-size-size.ensures.value in
-    let e : c.label-size-size.result - 0 ≡ label_size (tokens c.args.line.now) = omega (arith, v) in
+    let v = c.label_size-size.ensures.value in
+    let e : c.label_size-size.result - 0 ≡ label_size (tokens c.args.line.now) = omega (arith, v) in
     ap (λ (n : ℕ). take n c.args.line.now) e

@@ -1,4 +1,4 @@
-use Rattle.std.proofs.Common.{◌≡◌, ◌+◌, Bool, cond, [], ◌∷◌, ◌++◌, map, take, sym, ap, ◌∙◌}
+use Rattle.std.proofs.Common.{◌+◌, Bool, cond, [], ◌∷◌, ◌++◌, map, take, ap, ◌∙◌}
 use Rattle.sheets.specs.LineFaults.{label}
 use Rattle.sheets.specs.Parts.{part_of}
 use Rattle.sheets.proofs.LineLaws.{label_noted}
@@ -8,7 +8,7 @@ pub returns : goal.returns
 returns c =
     let text = c.args.text.now in
     let before = map (part_of text) (take c.args.statements c.args.labels.now) in
-    let e = c.if-labelled-end.ensures in
+    let e = c.if-labelled_end.ensures in
     record {
       value = ap (λ (b : Bool). cond b c.args.statements (c.args.statements + 1)) e;
       labels = label_noted text c.args.line.now c.args.from c.label_size.result c.args.labels.now c.args.statements c.requires.room c.requires.lies

@@ -1,7 +1,5 @@
-use Rattle.std.proofs.Common.{◌≡◌, ◌≤◌, map, sym, refl, ap, ◌∙◌, arith}
-use Rattle.sheets.specs.declared.entry.Entry.{Entry}
+use Rattle.std.proofs.Common.{map, ap, ◌∙◌, arith}
 use Rattle.sheets.specs.Entries.{entered}
-use Rattle.sheets.specs.Items.{Inside}
 use Rattle.sheets.specs.Parts.{part_of}
 use Rattle.sheets.specs.Tallies.{counts}
 use Rattle.sheets.proofs.RowLoops.{row_on, symbols_on, row_end, symbols_end}
@@ -13,14 +11,14 @@ loop-taken-preserved g c =
     let w = t.within in (
       w,
       omega arith,
-      row_on (counts g.K.Kind.meant g.K.Kind.wide) (map (part_of c.args.text.now) c.args.names.now) (map (part_of c.args.text.now) c.args.labels.now) c.args.from c.args.line.now c.loop-taken.reading c.loop-taken.at c.loop-taken.row c.loop-taken.stored c.in-Some.taken t c.symbols-of-count.result c.symbols-of-count.ensures.value _ c.enter-row.result c.loop-taken.invariant.2
-          (c.enter-row.ensures ∙ ap (entered c.loop-taken.row) c.entry-of.ensures),
-      symbols_on (counts g.K.Kind.meant g.K.Kind.wide) (map (part_of c.args.text.now) c.args.names.now) (map (part_of c.args.text.now) c.args.labels.now) c.args.from c.args.line.now c.loop-taken.reading c.loop-taken.at c.loop-taken.row c.loop-taken.stored c.in-Some.taken t c.symbols-of-count.result c.symbols-of-count.ensures.value _ c.loop-taken.invariant.3,
+      row_on (counts g.K.Kind.meant g.K.Kind.wide) (map (part_of c.args.text.now) c.args.names.now) (map (part_of c.args.text.now) c.args.labels.now) c.args.from c.args.line.now c.loop-taken.reading c.loop-taken.at c.loop-taken.row c.loop-taken.stored c.in-Some.taken t c.symbols_of-count.result c.symbols_of-count.ensures.value _ c.enter-row.result c.loop-taken.invariant.2
+          (c.enter-row.ensures ∙ ap (entered c.loop-taken.row) c.entry_of.ensures),
+      symbols_on (counts g.K.Kind.meant g.K.Kind.wide) (map (part_of c.args.text.now) c.args.names.now) (map (part_of c.args.text.now) c.args.labels.now) c.args.from c.args.line.now c.loop-taken.reading c.loop-taken.at c.loop-taken.row c.loop-taken.stored c.in-Some.taken t c.symbols_of-count.result c.symbols_of-count.ensures.value _ c.loop-taken.invariant.3,
     )
 
 pub returns : goal.returns
 returns g c =
-    let e = c.in-default.ensures in
+    let e = c.in_default.ensures in
     record {
       row = row_end (counts g.K.Kind.meant g.K.Kind.wide) (map (part_of c.args.text.now) c.args.names.now) (map (part_of c.args.text.now) c.args.labels.now) c.args.from c.args.line.now c.loop-taken.reading c.loop-taken.at c.loop-taken.row c.loop-taken.stored _ c.loop-taken.invariant.2 e;
       symbols = symbols_end (counts g.K.Kind.meant g.K.Kind.wide) (map (part_of c.args.text.now) c.args.names.now) (map (part_of c.args.text.now) c.args.labels.now) c.args.from c.args.line.now c.loop-taken.reading c.loop-taken.at c.loop-taken.row c.loop-taken.stored _ c.loop-taken.invariant.3 e;

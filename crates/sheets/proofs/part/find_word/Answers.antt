@@ -1,5 +1,4 @@
-use Rattle.std.proofs.Common.{◌≡◌, ℕ, ◌+◌, ◌-◌, ◌^◌, ◌<◌, ◌≤◌, Bool, true, false, cond, List, map, length, get_or, take, drop, Some, None, Option, sym, ◌∙◌, subst, arith}
-use Rattle.std.specs.Str.{bytes_eq}
+use Rattle.std.proofs.Common.{◌≡◌, ℕ, true, false, List, map, length, Some, None, Option, sym, ◌∙◌, subst, arith}
 use Rattle.sheets.specs.declared.part.Part.{Part}
 use Rattle.sheets.specs.Parts.{part_of, position, First}
 use Rattle.sheets.proofs.Searches.{place_is, place_end, first_place}

@@ -1,6 +1,5 @@
-use Rattle.std.proofs.Common.{◌≡◌, ℕ, ◌+◌, ◌<◌, ◌≤◌, List, length, sym, refl, ap, ◌∙◌, arith}
+use Rattle.std.proofs.Common.{◌≡◌, ℕ, List, refl, ◌∙◌, arith}
 use Rattle.std.proofs.lemmas.Result.{err_from_is_err_and}
-use Rattle.sheets.specs.Items.{Inside}
 use Rattle.lines.specs.Lines.{longest}
 use Rattle.lines.specs.Tokens.{tokens}
 use Rattle.sheets.specs.Faults.{first}
@@ -21,8 +20,8 @@ ascends g s n =
 pub loop-taken-init : goal.loop-taken-init
 loop-taken-init g c = (omega arith, c.requires.within, refl, refl)
 
-pub take-token-requires : goal.take-token-requires
-take-token-requires g c =
+pub take_token-requires : goal.take_token-requires
+take_token-requires g c =
     let t = c.in-Some.ensures in
     let a = t.start in
     let b = t.within in
@@ -35,31 +34,31 @@ take-token-requires g c =
       within = c.loop-taken.invariant.1;
     }
 
-pub returns-in-err-tally : goal.returns-in-err-tally
-returns-in-err-tally g c =
-    let p = err_from_is_err_and c.from-residual.result c.from-residual.ensures.1 in
+pub returns-in_err-tally : goal.returns-in_err-tally
+returns-in_err-tally g c =
+    let p = err_from_is_err_and c.from_residual.result c.from_residual.ensures.1 in
     rw (p.1, p.2)
     (first_here (counts g.K.Kind.meant g.K.Kind.wide) c.args.line.now (told c.args.text.now c.loop-taken.names c.loop-taken.tally)
-    c.loop-taken.reading c.loop-taken.at c.in-Some.taken c.in-Some.ensures _ c.in-err-tally.field-0.0 (ascends g c.args.line.now (told c.args.text.now c.args.names.now c.args.before) ∙ c.loop-taken.invariant.2)
-    c.in-err-tally.ensures)
+    c.loop-taken.reading c.loop-taken.at c.in-Some.taken c.in-Some.ensures _ c.in_err-tally.field-0.0 (ascends g c.args.line.now (told c.args.text.now c.args.names.now c.args.before) ∙ c.loop-taken.invariant.2)
+    c.in_err-tally.ensures)
 
 pub loop-taken-preserved : goal.loop-taken-preserved
 loop-taken-preserved g c =
     let t = c.in-Some.ensures in
-    let k = c.in-ok-tally.ensures in (
+    let k = c.in_ok-tally.ensures in (
       t.within,
       k.2,
       first_on (counts g.K.Kind.meant g.K.Kind.wide) c.args.line.now (told c.args.text.now c.loop-taken.names c.loop-taken.tally)
-          c.loop-taken.reading c.loop-taken.at c.in-Some.taken t _ (told c.args.text.now c.take-token.new.names c.in-ok-tally.tally)
+          c.loop-taken.reading c.loop-taken.at c.in-Some.taken t _ (told c.args.text.now c.take_token.new.names c.in_ok-tally.tally)
           c.loop-taken.invariant.2 k.0 k.1,
       count_on (counts g.K.Kind.meant g.K.Kind.wide) c.args.line.now (told c.args.text.now c.loop-taken.names c.loop-taken.tally)
-          c.loop-taken.reading c.loop-taken.at c.in-Some.taken t _ (told c.args.text.now c.take-token.new.names c.in-ok-tally.tally)
+          c.loop-taken.reading c.loop-taken.at c.in-Some.taken t _ (told c.args.text.now c.take_token.new.names c.in_ok-tally.tally)
           c.loop-taken.invariant.3 k.1,
     )
 
 pub returns : goal.returns
 returns g c =
-    let e = c.in-default.ensures in (
+    let e = c.in_default.ensures in (
       first_end (counts g.K.Kind.meant g.K.Kind.wide) c.args.line.now (told c.args.text.now c.loop-taken.names c.loop-taken.tally)
           c.loop-taken.reading c.loop-taken.at _ (ascends g c.args.line.now (told c.args.text.now c.args.names.now c.args.before) ∙ c.loop-taken.invariant.2) e,
       count_end (counts g.K.Kind.meant g.K.Kind.wide) c.args.line.now (told c.args.text.now c.loop-taken.names c.loop-taken.tally)

@@ -1,4 +1,4 @@
-use Rattle.std.proofs.Common.{◌≡◌, ◌-◌, ◌<◌, ◌≤◌, length, drop}
+use Rattle.std.proofs.Common.{◌≡◌, ◌-◌, ◌≤◌, length, drop}
 use Rattle.lines.specs.Tokens.{tokens, tokens_from}
 use Rattle.sheets.specs.Tallies.{counts, told, Within, first_from, count_from}
 use Rattle.sheets.proofs.tally.check_tokens.Given as goal

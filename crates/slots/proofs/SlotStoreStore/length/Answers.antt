@@ -3,5 +3,5 @@ use Rattle.slots.proofs.SlotStoreStore.length.Goals as goal
 
 pub returns : goal.returns
 returns g c =
-    let lies = c.in-ok-part.ensures.lies in
+    let lies = c.in_ok-part.ensures.lies in
     rw (lies.accepts, lies_length _ _ _ _ lies)

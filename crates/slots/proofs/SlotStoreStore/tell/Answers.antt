@@ -4,11 +4,11 @@ use Rattle.stores.proofs.Bounds.{range_parts}
 use Rattle.slots.proofs.Slots.{slots_limits}
 use Rattle.slots.proofs.SlotStoreStore.tell.Goals as goal
 
-pub returns-then-not-slots-fit : goal.returns-then-not-slots-fit
-returns-then-not-slots-fit g c = sym (slots_limits _ _ _ _ ∙ cond-false _ _ _ (sym c.if-not-slots-fit.ensures))
+pub returns-then-not-slots_fit : goal.returns-then-not-slots_fit
+returns-then-not-slots_fit g c = sym (slots_limits _ _ _ _ ∙ cond-false _ _ _ (sym c.if-not-slots_fit.ensures))
 
-pub overflow-mul-result : goal.overflow-mul-result
-overflow-mul-result g c = let small = (range_parts _ _ _ _ (sym c.if-not-slots-fit.ensures)).small in omega arith
+pub overflow_mul-result : goal.overflow_mul-result
+overflow_mul-result g c = let small = (range_parts _ _ _ _ (sym c.if-not-slots_fit.ensures)).small in omega arith
 
 pub returns : goal.returns
-returns g c = sym (slots_limits _ _ _ _ ∙ cond-true _ _ _ (sym c.if-not-slots-fit.ensures))
+returns g c = sym (slots_limits _ _ _ _ ∙ cond-true _ _ _ (sym c.if-not-slots_fit.ensures))

@@ -1,4 +1,4 @@
-use Rattle.std.proofs.Common.{◌≡◌, length, sym, ap, ◌∙◌}
+use Rattle.std.proofs.Common.{length, sym, ap}
 use Rattle.changes.specs.Success.{told}
 use Rattle.joins.specs.Renewed.{new_contents}
 use Rattle.statements.specs.Listed.{listed}

@@ -1,4 +1,4 @@
-use Rattle.std.proofs.Common.{◌≡◌, length, take, sym, ap, ◌∙◌}
+use Rattle.std.proofs.Common.{take, ap, ◌∙◌}
 use Rattle.statements.specs.Listed.{listed}
 use Rattle.statements.specs.Settled.{next_of, names_of}
 use Rattle.statements.proofs.Replacing.{succeeds_with}
@@ -9,5 +9,5 @@ returns-in-Some g c =
     let names = g.S.Store.held c.args.store.now in
     let placed = c.args.placed.now in
     let is = succeeds_with g.K.Kind.chars (listed c.args.listing) c.args.number c.args.row.now names c.args.reference placed.start c.in-Some.side
-    c.args.subject.now c.pattern-items.result.now c.placed-ends.result.now (take placed.count placed.ends) c.in-Some.is c.requires.subject c.pattern-items.ensures c.placed-ends.ensures in
+    c.args.subject.now c.pattern_items.result.now c.placed_ends.result.now (take placed.count placed.ends) c.in-Some.is c.requires.subject c.pattern_items.ensures c.placed_ends.ensures in
     record { answer = c.replace.ensures.answer ∙ ap next_of is; after = c.replace.ensures.after ∙ ap (names_of names) is }

@@ -1,4 +1,4 @@
-use Rattle.std.proofs.Common.{◌≡◌, length, sym, ap, ◌∙◌}
+use Rattle.std.proofs.Common.{length, sym, ap, ◌∙◌}
 use Rattle.symbols.specs.Answers.{answered, unless, over}
 use Rattle.stores.specs.declared.refusal.StoreRefusal.TheVariants.{OutOfRange}
 use Rattle.stores.specs.Names.{under}
@@ -18,7 +18,7 @@ returns-in-Ok g c =
     let ok = accepted (outside names k) OutOfRange (length s) c.in-Ok.length (c.in-Ok.ensures.answer ∙ ap (λ o. answered o (length s)) roomy) in
     record {
       value = ok.1;
-      area = left_new (outside names k) OutOfRange area (over s area) c.fetch-after.new.area (c.in-Ok.ensures.area ∙ ap (λ o. unless o area (over s area)) roomy) ok.0;
+      area = left_new (outside names k) OutOfRange area (over s area) c.fetch_after.new.area (c.in-Ok.ensures.area ∙ ap (λ o. unless o area (over s area)) roomy) ok.0;
     }
 
 pub returns-in-Err : goal.returns-in-Err
@@ -32,5 +32,5 @@ returns-in-Err g c =
     let null = outside_null names k out in
     record {
       value = sym (ap length null);
-      area = left_old (outside names k) OutOfRange area (over s area) c.fetch-after.new.area (c.in-Err.ensures.area ∙ ap (λ o. unless o area (over s area)) roomy) out ∙ sym (ap (λ t. over t area) null);
+      area = left_old (outside names k) OutOfRange area (over s area) c.fetch_after.new.area (c.in-Err.ensures.area ∙ ap (λ o. unless o area (over s area)) roomy) out ∙ sym (ap (λ t. over t area) null);
     }

@@ -1,4 +1,4 @@
-use Rattle.std.proofs.Common.{◌≡◌, ℕ, ◌≤◌, length, sym, ap, ◌∙◌, subst, arith}
+use Rattle.std.proofs.Common.{ℕ, ◌≤◌, length, sym, ap, ◌∙◌, subst, arith}
 use Rattle.std.specs.Option.{ok_or}
 use Rattle.stores.specs.Names.{Names, under}
 use Rattle.statements.specs.declared.refusal.StatementRefusal.TheVariants.{NoName}
@@ -6,8 +6,8 @@ use Rattle.statements.specs.GoTos.{leads}
 use Rattle.statements.proofs.Settling.{nothing_sound, nothing_written, next_left}
 use Rattle.statements.proofs.settle.fail.Goals as goal
 
-pub goes-to-requires : goal.goes-to-requires
-goes-to-requires g c =
+pub goes_to-requires : goal.goes_to-requires
+goes_to-requires g c =
     let names = g.S.Store.held c.args.store.now in
     let subject = c.args.subject.now in
     let room = length c.args.area.now in
@@ -21,4 +21,4 @@ pub returns : goal.returns
 returns g c =
     let names = g.S.Store.held c.args.store.now in
     let leading = λ (after : Names _). leads g.K.Kind.chars c.args.rows.now c.args.number after c.args.target in
-    c.ok-or.ensures.value ∙ ap (λ o. ok_or o NoName) (c.goes-to.ensures ∙ ap leading (nothing_written c.args.subject.now names)) ∙ next_left names (leading names)
+    c.ok_or.ensures.value ∙ ap (λ o. ok_or o NoName) (c.goes_to.ensures ∙ ap leading (nothing_written c.args.subject.now names)) ∙ next_left names (leading names)

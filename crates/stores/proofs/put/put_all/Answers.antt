@@ -3,7 +3,7 @@ use Rattle.stores.specs.Puts.{after_puts}
 use Rattle.stores.specs.Names.{limits, under}
 use Rattle.stores.proofs.Puts.{puts_more, puts_none, last_stands, puts_limits}
 use Rattle.stores.proofs.put.put_all.Goals as goal
-use Rattle.stores.proofs.put.put_all.Goals.{then-is-ok, else-is-ok}
+use Rattle.stores.proofs.put.put_all.Goals.{then-is_ok, else-is_ok}
 
 pub loop-put-init : goal.loop-put-init
 loop-put-init g c = (omega arith, refl, omega arith)
@@ -11,11 +11,11 @@ loop-put-init g c = (omega arith, refl, omega arith)
 pub loop-put-preserved : goal.loop-put-preserved
 loop-put-preserved g c =
     let held = g.S.Store.held in
-    let t = puts_more (held c.loop-put.store) (held c.put.new.self) c.args.puts.now c.loop-put.put-index c.put-item.result c.put.result c.is-ok.result c.loop-put-test.true c.put-item.is c.put.ensures.answer c.is-ok.ensures.value c.put.ensures.after in
+    let t = puts_more (held c.loop-put.store) (held c.put.new.self) c.args.puts.now c.loop-put.put-index c.put-item.result c.put.result c.is_ok.result c.loop-put-test.true c.put-item.is c.put.ensures.answer c.is_ok.ensures.value c.put.ensures.after in
     let all = c.loop-put.invariant.1 in
-    elim c.if-is-ok.branch [
-      | then-is-ok w ↦ (omega (arith, w.count-is), sym t.leaves ∙ all, let one = rw w.if-is-ok.true at t.counts in omega (arith, one, w.count-is, c.loop-put.invariant.2))
-      | else-is-ok w ↦ (omega (arith, w.count-is), sym t.leaves ∙ all, let none = rw w.if-is-ok.false at t.counts in omega (arith, none, w.count-is, c.loop-put.invariant.2))
+    elim c.if-is_ok.branch [
+      | then-is_ok w ↦ (omega (arith, w.count-is), sym t.leaves ∙ all, let one = rw w.if-is_ok.true at t.counts in omega (arith, one, w.count-is, c.loop-put.invariant.2))
+      | else-is_ok w ↦ (omega (arith, w.count-is), sym t.leaves ∙ all, let none = rw w.if-is_ok.false at t.counts in omega (arith, none, w.count-is, c.loop-put.invariant.2))
     ]
 
 pub returns : goal.returns

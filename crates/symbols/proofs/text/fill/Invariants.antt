@@ -1,4 +1,4 @@
-use Rattle.std.proofs.Common.{◌≡◌, ◌-◌, ◌*◌, ◌++◌, length, take, drop, Ok}
+use Rattle.std.proofs.Common.{◌≡◌, ◌-◌, ◌*◌, ◌++◌, take, drop, Ok}
 use Rattle.symbols.specs.Texts.{text_read, symbols_in, symbols_from}
 use Rattle.symbols.proofs.text.fill.Given as goal
 

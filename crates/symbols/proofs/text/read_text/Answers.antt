@@ -1,6 +1,6 @@
-use Rattle.std.proofs.Common.{◌≡◌, ℕ, List, length, sym, refl, arith}
+use Rattle.std.proofs.Common.{ℕ, List, length, sym, refl, arith}
 use Rattle.std.proofs.lemmas.Result.{err_from_is_err_and}
-use Rattle.symbols.specs.Texts.{text_read, symbols_in, text_refusal, Tells}
+use Rattle.symbols.specs.Texts.{text_read, Tells}
 use Rattle.symbols.proofs.ReadLaws.{tells_all}
 use Rattle.symbols.proofs.TextLaws.{refused_fault, refused_area, not_refused, counted_ok}
 use Rattle.symbols.proofs.text.read_text.Given.{Over}
@@ -9,20 +9,20 @@ use Rattle.symbols.proofs.text.read_text.Goals as goal
 told : (g : Over) (s : List ℕ) → Tells g.K.Kind.chars g.K.Kind.wide s (text_read g.K.Kind.meant g.K.Kind.wide s)
 told g s = tells_all g.K.Kind.chars g.K.Kind.meant g.K.Kind.wide g.met.K.Kind.wide_some g.met.K.Kind.all_wide g.met.K.Kind.read_back g.met.K.Kind.means_them s
 
-pub returns-in-err-count : goal.returns-in-err-count
-returns-in-err-count g c =
-    let p = err_from_is_err_and c.from-residual.result c.from-residual.ensures.1 in
-    let f = refused_fault (text_read g.K.Kind.meant g.K.Kind.wide c.args.text.now) c.in-err-count.field-0.0 (length c.args.area.now) (sym c.in-err-count.ensures) in
+pub returns-in_err-count : goal.returns-in_err-count
+returns-in_err-count g c =
+    let p = err_from_is_err_and c.from_residual.result c.from_residual.ensures.1 in
+    let f = refused_fault (text_read g.K.Kind.meant g.K.Kind.wide c.args.text.now) c.in_err-count.field-0.0 (length c.args.area.now) (sym c.in_err-count.ensures) in
     record { answer = rw (p.1, p.2, f) refl; area = rw f refl; tells = told g c.args.text.now }
 
 pub returns-then-area-count : goal.returns-then-area-count
 returns-then-area-count g c =
-    let f = refused_area (text_read g.K.Kind.meant g.K.Kind.wide c.args.text.now) c.in-ok-count.count (length c.args.area.now) (sym c.in-ok-count.ensures) (omega arith) in
+    let f = refused_area (text_read g.K.Kind.meant g.K.Kind.wide c.args.text.now) c.in_ok-count.count (length c.args.area.now) (sym c.in_ok-count.ensures) (omega arith) in
     record { answer = rw f refl; area = rw f refl; tells = told g c.args.text.now }
 
 pub returns : goal.returns
 returns g c =
-    let n = sym c.in-ok-count.ensures in
-    let f = not_refused (text_read g.K.Kind.meant g.K.Kind.wide c.args.text.now) c.in-ok-count.count (length c.args.area.now) n (omega arith) in
-    let m = (counted_ok (text_read g.K.Kind.meant g.K.Kind.wide c.args.text.now) c.in-ok-count.count n).1 in
+    let n = sym c.in_ok-count.ensures in
+    let f = not_refused (text_read g.K.Kind.meant g.K.Kind.wide c.args.text.now) c.in_ok-count.count (length c.args.area.now) n (omega arith) in
+    let m = (counted_ok (text_read g.K.Kind.meant g.K.Kind.wide c.args.text.now) c.in_ok-count.count n).1 in
     record { answer = rw (f, m) refl; area = rw f c.fill.ensures; tells = told g c.args.text.now }

@@ -9,64 +9,64 @@ use Rattle.session.proofs.Answers.{answered_err, answered_ok, stops, goes_on}
 use Rattle.session.proofs.Leaves.{room_left, kept, done}
 use Rattle.session.proofs.session.Session.give.Goals as goal
 
-pub returns-in-err-check-fit : goal.returns-in-err-check-fit
-returns-in-err-check-fit g c =
+pub returns-in_err-check_fit : goal.returns-in_err-check_fit
+returns-in_err-check_fit g c =
     let s = c.args.self.now in
     let area = c.args.entries.now in
-    let p = err_from_is_err_and c.from-residual.result c.from-residual.ensures.1 in
-    let unfits = answered_err _ _ _ _ c.in-err-check-fit.was c.check-fit.ensures in
+    let p = err_from_is_err_and c.from_residual.result c.from_residual.ensures.1 in
+    let unfits = answered_err _ _ _ _ c.in_err-check_fit.was c.check_fit.ensures in
     let is : give_refusal (state g.S.Store.held s area) c.args.number c.args.string.now ≡ Some _ = stops _ _ _ unfits in
     rw (p.1, p.2) (record { answer = ap (λ o. answered o tt) (sym is); leaves = kept g.S.Store.held s area s.store _ _ _ is refl; kind = refl })
 
-pub returns-in-err-check-number : goal.returns-in-err-check-number
-returns-in-err-check-number g c =
+pub returns-in_err-check_number : goal.returns-in_err-check_number
+returns-in_err-check_number g c =
     let s = c.args.self.now in
     let area = c.args.entries.now in
-    let p = err_from_is_err_and c.from-residual-in-err-check-number.result c.from-residual-in-err-check-number.ensures.1 in
-    let fits = answered_ok _ _ _ _ c.in-ok-check-fit.was c.check-fit.ensures in
-    let unknown = answered_err _ _ _ _ c.in-err-check-number.was c.check-number.ensures in
+    let p = err_from_is_err_and c.from_residual-in_err-check_number.result c.from_residual-in_err-check_number.ensures.1 in
+    let fits = answered_ok _ _ _ _ c.in_ok-check_fit.was c.check_fit.ensures in
+    let unknown = answered_err _ _ _ _ c.in_err-check_number.was c.check_number.ensures in
     let is : give_refusal (state g.S.Store.held s area) c.args.number c.args.string.now ≡ Some _ = goes_on _ _ fits ∙ stops _ _ _ unknown in
     rw (p.1, p.2) (record { answer = ap (λ o. answered o tt) (sym is); leaves = kept g.S.Store.held s area s.store _ _ _ is refl; kind = refl })
 
-pub returns-in-err-check-room : goal.returns-in-err-check-room
-returns-in-err-check-room g c =
+pub returns-in_err-check_room : goal.returns-in_err-check_room
+returns-in_err-check_room g c =
     let s = c.args.self.now in
     let area = c.args.entries.now in
-    let p = err_from_is_err_and c.from-residual-in-err-check-room.result c.from-residual-in-err-check-room.ensures.1 in
-    let fits = answered_ok _ _ _ _ c.in-ok-check-fit.was c.check-fit.ensures in
-    let known = answered_ok _ _ _ _ c.in-ok-check-number.was c.check-number.ensures in
-    let fills = answered_err _ _ _ _ c.in-err-check-room.was c.check-room.ensures in
+    let p = err_from_is_err_and c.from_residual-in_err-check_room.result c.from_residual-in_err-check_room.ensures.1 in
+    let fits = answered_ok _ _ _ _ c.in_ok-check_fit.was c.check_fit.ensures in
+    let known = answered_ok _ _ _ _ c.in_ok-check_number.was c.check_number.ensures in
+    let fills = answered_err _ _ _ _ c.in_err-check_room.was c.check_room.ensures in
     let is : give_refusal (state g.S.Store.held s area) c.args.number c.args.string.now ≡ Some _ = goes_on _ _ fits ∙ (goes_on _ _ known ∙ stops _ _ _ fills) in
     rw (p.1, p.2) (record { answer = ap (λ o. answered o tt) (sym is); leaves = kept g.S.Store.held s area s.store _ _ _ is refl; kind = refl })
 
-pub returns-in-err-put : goal.returns-in-err-put
-returns-in-err-put g c =
+pub returns-in_err-put : goal.returns-in_err-put
+returns-in_err-put g c =
     let s = c.args.self.now in
     let area = c.args.entries.now in
-    let p = err_from_is_err_and c.from-residual-in-err-put.result c.from-residual-in-err-put.ensures.1 in
-    let fits = answered_ok _ _ _ _ c.in-ok-check-fit.was c.check-fit.ensures in
-    let known = answered_ok _ _ _ _ c.in-ok-check-number.was c.check-number.ensures in
-    let room = answered_ok _ _ _ _ c.in-ok-check-room.was c.check-room.ensures in
-    let refused = answered_err _ _ _ _ c.in-err-put.was c.put.ensures.answer in
+    let p = err_from_is_err_and c.from_residual-in_err-put.result c.from_residual-in_err-put.ensures.1 in
+    let fits = answered_ok _ _ _ _ c.in_ok-check_fit.was c.check_fit.ensures in
+    let known = answered_ok _ _ _ _ c.in_ok-check_number.was c.check_number.ensures in
+    let room = answered_ok _ _ _ _ c.in_ok-check_room.was c.check_room.ensures in
+    let refused = answered_err _ _ _ _ c.in_err-put.was c.put.ensures.answer in
     let is : give_refusal (state g.S.Store.held s area) c.args.number c.args.string.now ≡ Some _ = goes_on _ _ fits ∙ (goes_on _ _ known ∙ (goes_on _ _ room ∙ ap (option_map stored) refused)) in
     rw (p.1, p.2) (record { answer = ap (λ o. answered o tt) (sym is); leaves = kept g.S.Store.held s area c.put.new.self _ _ _ is (rw refused at c.put.ensures.after); kind = refl })
 
 pub note-self-requires : goal.note-self-requires
 note-self-requires g c =
-    let room = answered_ok _ _ _ _ c.in-ok-check-room.was c.check-room.ensures in
+    let room = answered_ok _ _ _ _ c.in_ok-check_room.was c.check_room.ensures in
     room_left g.S.Store.held c.args.self.now c.args.entries.now room
 
 pub returns : goal.returns
 returns g c =
     let s = c.args.self.now in
     let area = c.args.entries.now in
-    let fits = answered_ok _ _ _ _ c.in-ok-check-fit.was c.check-fit.ensures in
-    let known = answered_ok _ _ _ _ c.in-ok-check-number.was c.check-number.ensures in
-    let room = answered_ok _ _ _ _ c.in-ok-check-room.was c.check-room.ensures in
-    let taken = answered_ok _ _ _ _ c.in-ok-put.was c.put.ensures.answer in
+    let fits = answered_ok _ _ _ _ c.in_ok-check_fit.was c.check_fit.ensures in
+    let known = answered_ok _ _ _ _ c.in_ok-check_number.was c.check_number.ensures in
+    let room = answered_ok _ _ _ _ c.in_ok-check_room.was c.check_room.ensures in
+    let taken = answered_ok _ _ _ _ c.in_ok-put.was c.put.ensures.answer in
     let is : give_refusal (state g.S.Store.held s area) c.args.number c.args.string.now ≡ None = goes_on _ _ fits ∙ (goes_on _ _ known ∙ (goes_on _ _ room ∙ ap (option_map stored) taken)) in
     record {
       answer = ap (λ o. answered o tt) (sym is);
-      leaves = done g.S.Store.held s area _ _ _ _ _ is (room_left g.S.Store.held s area room) c.note-self.ensures.count (c.note-self.ensures.area ∙ ap (set area s.recorded) c.plain-entry.ensures) (rw taken at c.put.ensures.after);
+      leaves = done g.S.Store.held s area _ _ _ _ _ is (room_left g.S.Store.held s area room) c.note-self.ensures.count (c.note-self.ensures.area ∙ ap (set area s.recorded) c.plain_entry.ensures) (rw taken at c.put.ensures.after);
       kind = refl;
     }

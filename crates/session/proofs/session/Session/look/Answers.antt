@@ -9,33 +9,33 @@ use Rattle.session.specs.State.{state}
 use Rattle.session.proofs.Answers.{answered_err, answered_ok, answered_value, stops, goes_on}
 use Rattle.session.proofs.session.Session.look.Goals as goal
 
-pub returns-in-err-check-fit : goal.returns-in-err-check-fit
-returns-in-err-check-fit g c =
+pub returns-in_err-check_fit : goal.returns-in_err-check_fit
+returns-in_err-check_fit g c =
     let s = state g.S.Store.held c.args.self.now [] in
     let area = c.args.area.now in
-    let p = err_from_is_err_and c.from-residual.result c.from-residual.ensures.1 in
-    let unfits = answered_err _ _ _ _ c.in-err-check-fit.was c.check-fit.ensures in
+    let p = err_from_is_err_and c.from_residual.result c.from_residual.ensures.1 in
+    let unfits = answered_err _ _ _ _ c.in_err-check_fit.was c.check_fit.ensures in
     let is : look_refusal s c.args.number (length area) ≡ Some _ = stops _ _ _ unfits in
     rw (p.1, p.2) (record { answer = ap (λ o. answered o (length (under s.names c.args.number))) (sym is); area = ap (λ o. unless o area (over (under s.names c.args.number) area)) (sym is) })
 
-pub returns-in-err-check-number : goal.returns-in-err-check-number
-returns-in-err-check-number g c =
+pub returns-in_err-check_number : goal.returns-in_err-check_number
+returns-in_err-check_number g c =
     let s = state g.S.Store.held c.args.self.now [] in
     let area = c.args.area.now in
-    let p = err_from_is_err_and c.from-residual-in-err-check-number.result c.from-residual-in-err-check-number.ensures.1 in
-    let fits = answered_ok _ _ _ _ c.in-ok-check-fit.was c.check-fit.ensures in
-    let unknown = answered_err _ _ _ _ c.in-err-check-number.was c.check-number.ensures in
+    let p = err_from_is_err_and c.from_residual-in_err-check_number.result c.from_residual-in_err-check_number.ensures.1 in
+    let fits = answered_ok _ _ _ _ c.in_ok-check_fit.was c.check_fit.ensures in
+    let unknown = answered_err _ _ _ _ c.in_err-check_number.was c.check_number.ensures in
     let is : look_refusal s c.args.number (length area) ≡ Some _ = goes_on _ _ fits ∙ stops _ _ _ unknown in
     rw (p.1, p.2) (record { answer = ap (λ o. answered o (length (under s.names c.args.number))) (sym is); area = ap (λ o. unless o area (over (under s.names c.args.number) area)) (sym is) })
 
-pub returns-in-err-fetch : goal.returns-in-err-fetch
-returns-in-err-fetch g c =
+pub returns-in_err-fetch : goal.returns-in_err-fetch
+returns-in_err-fetch g c =
     let s = state g.S.Store.held c.args.self.now [] in
     let area = c.args.area.now in
-    let p = err_from_is_err_and c.from-residual-in-err-fetch.result c.from-residual-in-err-fetch.ensures.1 in
-    let fits = answered_ok _ _ _ _ c.in-ok-check-fit.was c.check-fit.ensures in
-    let known = answered_ok _ _ _ _ c.in-ok-check-number.was c.check-number.ensures in
-    let refused = answered_err _ _ _ _ c.in-err-fetch.was c.fetch.ensures.answer in
+    let p = err_from_is_err_and c.from_residual-in_err-fetch.result c.from_residual-in_err-fetch.ensures.1 in
+    let fits = answered_ok _ _ _ _ c.in_ok-check_fit.was c.check_fit.ensures in
+    let known = answered_ok _ _ _ _ c.in_ok-check_number.was c.check_number.ensures in
+    let refused = answered_err _ _ _ _ c.in_err-fetch.was c.fetch.ensures.answer in
     let is : look_refusal s c.args.number (length area) ≡ Some _ = goes_on _ _ fits ∙ (goes_on _ _ known ∙ ap (option_map stored) refused) in
     let left = rw refused at c.fetch.ensures.area in
     rw (p.1, p.2) (record { answer = ap (λ o. answered o (length (under s.names c.args.number))) (sym is); area = left ∙ ap (λ o. unless o area (over (under s.names c.args.number) area)) (sym is) })
@@ -44,10 +44,10 @@ pub returns : goal.returns
 returns g c =
     let s = state g.S.Store.held c.args.self.now [] in
     let area = c.args.area.now in
-    let fits = answered_ok _ _ _ _ c.in-ok-check-fit.was c.check-fit.ensures in
-    let known = answered_ok _ _ _ _ c.in-ok-check-number.was c.check-number.ensures in
-    let taken = answered_ok _ _ _ _ c.in-ok-fetch.was c.fetch.ensures.answer in
-    let long = answered_value _ _ _ _ c.in-ok-fetch.was c.fetch.ensures.answer in
+    let fits = answered_ok _ _ _ _ c.in_ok-check_fit.was c.check_fit.ensures in
+    let known = answered_ok _ _ _ _ c.in_ok-check_number.was c.check_number.ensures in
+    let taken = answered_ok _ _ _ _ c.in_ok-fetch.was c.fetch.ensures.answer in
+    let long = answered_value _ _ _ _ c.in_ok-fetch.was c.fetch.ensures.answer in
     let is : look_refusal s c.args.number (length area) ≡ None = goes_on _ _ fits ∙ (goes_on _ _ known ∙ ap (option_map stored) taken) in
     let new = rw taken at c.fetch.ensures.area in
     record {

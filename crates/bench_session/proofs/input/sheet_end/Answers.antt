@@ -1,4 +1,4 @@
-use Rattle.std.proofs.Common.{◌≡◌, sym, ◌∙◌, arith}
+use Rattle.std.proofs.Common.{sym, arith}
 use Rattle.bench_session.specs.Input.{sheet_end}
 use Rattle.bench_session.proofs.Reaches.{reach_here, reach_on}
 use Rattle.bench_session.proofs.input.sheet_end.Goals as goal

@@ -1,6 +1,6 @@
 """Compares a program of this repository with the second engine, on fixed and random inputs.
 
-    python3 compare/compare.py bench|sheet SECONDS SEED
+    python3 compare/compare.py bench_session|sheet_tables SECONDS SEED
 
 All fixed inputs are compared, then random ones until SECONDS have passed since the beginning. The
 outputs have to be the same to the last character. At the first difference the input is made
@@ -22,10 +22,15 @@ sys.dont_write_bytecode = True
 import engine
 import inputs
 
-PROGRAMS = pathlib.Path(__file__).resolve().parent.parent / "target" / "bin"
+CRATES = pathlib.Path(__file__).resolve().parent.parent / "crates"
 ANSWER_SECONDS = 60
 SHRINKING_SECONDS = 15
 SHOWN_CHARACTERS = 2000
+
+
+def built(program):
+    """Where a built program lies."""
+    return CRATES / program / "out" / program
 
 
 class Comparison:
@@ -33,12 +38,12 @@ class Comparison:
 
     def __init__(self, program, folder):
         self.program = program
-        self.path = PROGRAMS / program
+        self.path = built(program)
         self.sheet = pathlib.Path(folder) / "input.sheet"
 
     def expected(self, case):
         """What the engine says that the program prints, or None where it gives up."""
-        if self.program == "sheet":
+        if self.program == "sheet_tables":
             return engine.sheet_output(case.data, case.kind)
         try:
             return engine.bench_output(case.data)
@@ -48,7 +53,7 @@ class Comparison:
     def printed(self, case):
         """What the program prints; a status other than 0 and a missing answer are told behind it."""
         command = [self.path]
-        if self.program == "sheet":
+        if self.program == "sheet_tables":
             self.sheet.write_bytes(case.data)
             command += [case.kind, self.sheet]
         try:
@@ -138,13 +143,13 @@ def show_difference(comparison, case):
 
 def main():
     parser = argparse.ArgumentParser(description="Compare a program with the second engine.")
-    parser.add_argument("program", choices=["bench", "sheet"])
+    parser.add_argument("program", choices=["bench_session", "sheet_tables"])
     parser.add_argument("seconds", type=float)
     parser.add_argument("seed", type=int)
     arguments = parser.parse_args()
-    if not (PROGRAMS / arguments.program).exists():
+    if not built(arguments.program).exists():
         parser.error(f"{arguments.program} is not built; ./run {arguments.program} builds it")
-    streams = {"bench": inputs.bench_inputs, "sheet": inputs.sheet_inputs}
+    streams = {"bench_session": inputs.bench_inputs, "sheet_tables": inputs.sheet_inputs}
     with tempfile.TemporaryDirectory() as folder:
         comparison = Comparison(arguments.program, folder)
         cases = streams[arguments.program](arguments.seed)

@@ -4,7 +4,7 @@ It was written from the rules in docs/ and shares no code with the crates. Its s
 placings by their definition, one after the other in scan order, and counts them.
 
 Two functions give what the programs print: `sheet_output` and `bench_output`. How that is laid out
-is told in the README; only the sentences that `sheet` prints under a caret, and `?` for a code that
+is told in the README; only the sentences that `sheet_tables` prints under a caret, and `?` for a code that
 cannot be printed, are taken from that program. Texts are bytes. Places count from 0; lines, columns,
 names and statements count from 1, and statement 0 is END.
 """
@@ -23,7 +23,7 @@ PART_LIMIT = 8
 WORD_LIMIT = 16
 LENGTH_LIMIT = 4096
 
-# What the program bench allows.
+# What the program bench_session allows.
 STRING_LIMIT = 1024
 STEP_LIMIT = 1000
 TRIAL_LIMIT = 1000000
@@ -448,7 +448,7 @@ def load(text, kind):
     return sheet
 
 
-# ---- What the program sheet prints
+# ---- What the program sheet_tables prints
 
 LAYERS = {1: 3, 2: 2, 3: 2, 4: 2, 5: 2, 6: 1, 7: 2, 8: 3, 9: 3, 10: 3}
 SENTENCES = {
@@ -529,7 +529,7 @@ def table_rows(sheet):
 
 
 def sheet_output(text, kind_name):
-    """What the program sheet prints for one sheet of a kind."""
+    """What the program sheet_tables prints for one sheet of a kind."""
     try:
         rows = table_rows(load(text, KINDS[kind_name]))
     except SheetRefused as refusal:
@@ -750,7 +750,7 @@ class Session:
         self.next = following
 
     def run(self):
-        """Carries out statements to END; the number that the program bench prints behind STOP."""
+        """Carries out statements to END; the number that the program bench_session prints behind STOP."""
         for _ in range(STEP_LIMIT):
             try:
                 self.step()
@@ -761,7 +761,7 @@ class Session:
         return 30
 
 
-# ---- What the program bench prints
+# ---- What the program bench_session prints
 
 
 def split_input(data):
@@ -798,5 +798,5 @@ def bench_rows(data):
 
 
 def bench_output(data):
-    """What the program bench prints for an input; it may be TooLaborious to tell."""
+    """What the program bench_session prints for an input; it may be TooLaborious to tell."""
     return "".join(row + "\n" for row in bench_rows(data)).encode()

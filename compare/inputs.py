@@ -1,7 +1,7 @@
 """Inputs to compare on: a fixed list of telling ones, then random ones, the same for the same seed.
 
-`sheet_inputs` gives sheets for the program sheet, `bench_inputs` sheets with a line behind them for
-the program bench. Texts are put together as strings, in which each character stands for one code.
+`sheet_inputs` gives sheets for the program sheet_tables, `bench_inputs` sheets with a line behind them for
+the program bench_session. Texts are put together as strings, in which each character stands for one code.
 """
 
 import itertools

@@ -1,7 +1,7 @@
 -- What each name has after a success: the string of its one source. Assumes nothing.
 use Rattle.std.proofs.Common.{◌≡◌, ℕ, ◌-◌, Bool, true, false, cond, eqb, List, [], ◌∷◌, length, Some, None, Option, sym, refl, ap, ◌∙◌, arith}
 use Rattle.std.proofs.lemmas.List.{length-set}
-use Rattle.std.specs.List.{AllByRecursion as All}
+use Rattle.std.specs.List.{AllByRecursion}
 use Rattle.placings.specs.Pattern.{part}
 use Rattle.stores.specs.Names.{Names, under, with_string}
 use Rattle.stores.specs.Puts.{put_or}
@@ -48,7 +48,7 @@ module _ {X : Type 0} (success : Success X) where
   takes_under (Variable v) x y k names inn = under_with names v.name k (part success.subject x y) inn.low inn.high ∙ value_cond (eqb v.name k) x y (under names k)
 
   -- a name has the part of the last variable of that name, or what it had
-  named_under : (start : ℕ) (is : List Item) (es : List ℕ) (names : Names X) (n k : ℕ) → length names.strings ≡ n → All (Numbered n) is → under (named success.subject start is es names) k ≡ put_or (value success (last_part k start is es)) (under names k)
+  named_under : (start : ℕ) (is : List Item) (es : List ℕ) (names : Names X) (n k : ℕ) → length names.strings ≡ n → AllByRecursion (Numbered n) is → under (named success.subject start is es names) k ≡ put_or (value success (last_part k start is es)) (under names k)
   unfolding named last_part
   named_under start [] es names n k len all = refl
   named_under start (i ∷ is) [] names n k len all = refl

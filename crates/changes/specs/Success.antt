@@ -1,6 +1,6 @@
 -- What a successful statement has to tell for its writes. Assumes nothing.
 use Rattle.std.specs.Prelude.{◌≡◌, ℕ, suc, ◌<◌, ◌≤◌, List, ◌∷◌, length, Some, None, Option, slice_index}
-use Rattle.std.specs.List.{AllByRecursion as All}
+use Rattle.std.specs.List.{AllByRecursion}
 use Rattle.stores.specs.Names.{Names}
 use Rattle.tables.specs.declared.row.Item.{Item}
 use Rattle.tables.specs.declared.row.Item.TheVariants.{Operand, Variable}
@@ -47,5 +47,5 @@ Referred n (Some k) = In n k
 -- a success of a checked statement over these names
 pub record Sound {X : Type 0} (names : Names X) (success : Success X) : Type 0 where
   pub placed : Placed success
-  pub variables : All (Numbered (length names.strings)) success.items
+  pub variables : AllByRecursion (Numbered (length names.strings)) success.items
   pub referred : Referred (length names.strings) success.reference

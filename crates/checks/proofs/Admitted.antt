@@ -3,7 +3,7 @@ use Rattle.std.proofs.Common.{◌≡◌, ℕ, ◌<◌, ◌≤◌, Bool, true, eq
 use Rattle.std.proofs.ByRecursion.{All-get_or}
 use Rattle.std.proofs.lemmas.List.{get_or-take, length-take-le}
 use Rattle.std.proofs.lemmas.Bool.Decides.{Decides-and, Decides-at, Decides-like, Decides-eqb}
-use Rattle.std.specs.List.{AllByRecursion as All}
+use Rattle.std.specs.List.{AllByRecursion}
 use Rattle.tables.specs.Lookups.{names_in}
 use Rattle.tables.specs.Tables.{counts}
 use Rattle.tables.specs.declared.row.Row.{Row}
@@ -35,10 +35,10 @@ module _ (names : ℕ) (opened : Counts) (sheet : Sheet) (rows : List Row) (room
   Limited = (sheet.statements ≤ most_statements) × ((sheet.names.count ≤ most_names) × ((sheet.constants ≤ most_constants) × ((sheet.statements ≤ length rows) × (sheet.constants ≤ room))))
 
   abbrev Sound-rows : Type 0
-  Sound-rows = All (Sound-row sheet.names.count sheet.statements sheet.constants) (take sheet.statements rows)
+  Sound-rows = AllByRecursion (Sound-row sheet.names.count sheet.statements sheet.constants) (take sheet.statements rows)
 
   abbrev Tested : Type 0
-  Tested = (sheet.names.count ≤ names) × ((counts sheet ≡ opened) × (Limited × (All Short (names_in sheet.names) × (Sound-next sheet.statements sheet.start × Sound-rows))))
+  Tested = (sheet.names.count ≤ names) × ((counts sheet ≡ opened) × (Limited × (AllByRecursion Short (names_in sheet.names) × (Sound-next sheet.statements sheet.start × Sound-rows))))
 
   decides_limited : Decides (within_limits (counts sheet) (length rows) room) Limited
   decides_limited =

@@ -3,7 +3,7 @@ use Rattle.std.proofs.Common.{ℕ, ◌≤◌, Bool, true, leb, List, take, Some,
 use Rattle.std.proofs.ByRecursion.{All-weaker, Decides-by_and}
 use Rattle.std.proofs.lemmas.Bool.{leb-true, le-leb}
 use Rattle.std.proofs.lemmas.Bool.Decides.{Decides-and, Decides-like}
-use Rattle.std.specs.List.{AllByRecursion as All}
+use Rattle.std.specs.List.{AllByRecursion}
 use Rattle.tables.specs.Limits.{longest_name}
 use Rattle.tables.specs.declared.name.Name.{Name}
 use Rattle.tables.specs.declared.row.Form.{Form}
@@ -33,7 +33,7 @@ decides_always : Decides true (Unit {0})
 decides_always = (λ _. tt, λ _. refl)
 
 module _ {A : Type 0} (test : A → Bool) (P : A → Type 0) (each : (x : A) → Decides (test x) (P x)) where
-  pub decides_every : (xs : List A) → Decides (every test xs) (All P xs)
+  pub decides_every : (xs : List A) → Decides (every test xs) (AllByRecursion P xs)
   unfolding every
   decides_every xs = Decides-by_and test P (every test) each refl (λ _ _. refl) xs
 
@@ -69,7 +69,7 @@ module _ (c : Counts) where
   decides_target (To next) = decides_next next
   decides_target (Through k) = decides_numbered c.names k
 
-  decides_pattern : (p : Pattern) → Decides (pattern_fits c p) ((p.count ≤ most_elements) × All (Sound-item c.names c.constants) (take p.count p.items))
+  decides_pattern : (p : Pattern) → Decides (pattern_fits c p) ((p.count ≤ most_elements) × AllByRecursion (Sound-item c.names c.constants) (take p.count p.items))
   decides_pattern p = Decides-and (leb p.count most_elements) (every (item_fits c) (take p.count p.items)) (decides_leb p.count most_elements) (decides_every (item_fits c) (Sound-item c.names c.constants) decides_item (take p.count p.items))
 
   decides_side : (s : RightSide) → Decides (side_fits c s) (Sound-side c.names c.constants s)

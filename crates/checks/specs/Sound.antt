@@ -1,6 +1,6 @@
 -- What holds of tables that may be worked with. Assumes nothing.
 use Rattle.std.specs.Prelude.{◌≡◌, ℕ, ◌<◌, ◌≤◌, List, length, take, Some, None, Option, slice_index_or}
-use Rattle.std.specs.List.{AllByRecursion as All}
+use Rattle.std.specs.List.{AllByRecursion}
 use Rattle.tables.specs.Limits.{longest_name}
 use Rattle.tables.specs.Lookups.{names_in}
 use Rattle.tables.specs.Tables.{counts}
@@ -46,7 +46,7 @@ Sound-item n c (variable v) = In n v.name × Sound-form v.form
 
 -- at most eight operands, all sound
 abbrev pub Sound-side : ℕ → ℕ → RightSide → Type 0
-Sound-side n c side = (side.count ≤ most_operands) × All (Sound-operand n c) (take side.count side.operands)
+Sound-side n c side = (side.count ≤ most_operands) × AllByRecursion (Sound-operand n c) (take side.count side.operands)
 
 -- one of s statements comes next, or END
 abbrev pub Sound-next : ℕ → Next → Type 0
@@ -67,8 +67,8 @@ pub record Sound-row (n s c : ℕ) (row : Row) : Type 0 where
   pub label : Given Short row.label
   pub reference : In n (number_in row.reference)
   pub elements : row.pattern.count ≤ most_elements
-  pub items : All (Sound-item n c) (take row.pattern.count row.pattern.items)
-  pub variables : All (Numbered n) (take row.pattern.count row.pattern.items)
+  pub items : AllByRecursion (Sound-item n c) (take row.pattern.count row.pattern.items)
+  pub variables : AllByRecursion (Numbered n) (take row.pattern.count row.pattern.items)
   pub operands : Given (Sound-side n c) row.right_side
   pub success : Given (Sound-target n s) row.on_success
   pub failure : Given (Sound-target n s) row.on_failure
@@ -82,9 +82,9 @@ pub record Admitted (names : ℕ) (opened : Counts) (sheet : Sheet) (rows : List
   pub stored : sheet.names.count ≤ names
   pub lent_rows : sheet.statements ≤ length rows
   pub lent_constants : sheet.constants ≤ room
-  pub short : All Short (names_in sheet.names)
+  pub short : AllByRecursion Short (names_in sheet.names)
   pub start : Sound-next sheet.statements sheet.start
   -- every statement is sound for the names of the sheet
-  pub all_rows : All (Sound-row sheet.names.count sheet.statements sheet.constants) (take sheet.statements rows)
+  pub all_rows : AllByRecursion (Sound-row sheet.names.count sheet.statements sheet.constants) (take sheet.statements rows)
   -- and for those of the store
   pub row : (k : ℕ) (d : Row) → k < sheet.statements → Sound-row names sheet.statements sheet.constants (slice_index_or rows k d)

@@ -1,6 +1,6 @@
 -- What each token of a line without fault gives fits the sheet. Assumes nothing.
 use Rattle.std.proofs.Common.{◌≡◌, ℕ, ◌+◌, ◌≤◌, Bool, true, false, cond, not, ◌&&◌, ltb, List, [], ◌∷◌, length, Some, None, Option, refl, ap, ◌∙◌, arith}
-use Rattle.std.specs.List.{flat_map, AllByRecursion as All}
+use Rattle.std.specs.List.{flat_map, AllByRecursion}
 use Rattle.std.proofs.lemmas.List.{length-append}
 use Rattle.std.proofs.lemmas.Bool.{false≢true, lt-ltb}
 use Rattle.lines.specs.declared.role.Role.{Role}
@@ -101,7 +101,7 @@ module _ (names labels : List (List ℕ)) (line : List ℕ) where
     entry_sound Role.OnS k n h = target_sound (token Role.OnS k n) h (λ _. refl) (λ _. refl)
     entry_sound Role.OnF k n h = target_sound (token Role.OnF k n) h (λ _. refl) (λ _. refl)
 
-  pub all_settled : (ts : List Token) → All (Good line) ts → All (λ t. brings_name line t ≡ true → Among (spelling line t) names) ts → unknown_from labels line ts ≡ None → All Settled ts
+  pub all_settled : (ts : List Token) → AllByRecursion (Good line) ts → AllByRecursion (λ t. brings_name line t ≡ true → Among (spelling line t) names) ts → unknown_from labels line ts ≡ None → AllByRecursion Settled ts
   unfolding unknown_from
   all_settled [] g n u = tt
   all_settled (t ∷ ts) g n u =
@@ -109,8 +109,8 @@ module _ (names labels : List (List ℕ)) (line : List ℕ) where
       (record { good = g.0; named = n.0; told = p.0 }, all_settled ts g.1 n.1 p.1)
 
   module _ {X : Type 0} (meant : List ℕ → Option X) (wide constants : ℕ) where
-    pub entries_sound : (at : ℕ) (ts : List Token) → All Settled ts → at + length (flat_map (token_symbols meant wide line) ts) ≤ constants
-        → All (Sound-entry (length names) (length labels) constants) (entries_from meant wide names labels line at ts)
+    pub entries_sound : (at : ℕ) (ts : List Token) → AllByRecursion Settled ts → at + length (flat_map (token_symbols meant wide line) ts) ≤ constants
+        → AllByRecursion (Sound-entry (length names) (length labels) constants) (entries_from meant wide names labels line at ts)
     unfolding entries_from
     entries_sound at [] h l = tt
     entries_sound at (t ∷ ts) h l =

@@ -1,6 +1,6 @@
 -- What a load wrote may be worked with. Assumes nothing.
 use Rattle.std.proofs.Common.{◌≡◌, ℕ, ◌≤◌, min, Bool, true, false, cond, ◌||◌, eqb, ltb, leb, List, [], ◌∷◌, map, length, take, drop, Some, None, Option, Result, sym, refl, subst, arith}
-use Rattle.std.specs.List.{AllByRecursion as All}
+use Rattle.std.specs.List.{AllByRecursion}
 use Rattle.std.proofs.ByRecursion.{All-take, All-map}
 use Rattle.std.proofs.lemmas.List.{length-append, take-append-le}
 use Rattle.std.proofs.lemmas.Bool.{le-leb, eq-eqb, ltb-false, and_from}
@@ -49,11 +49,11 @@ areas true b o e = absurd (let z : ◌≡◌ {A = ℕ} 0 1 = cc in omega arith)
 areas false true o e = absurd (let z : ◌≡◌ {A = ℕ} 0 1 = cc in omega arith)
 areas false false o e = (refl, refl, e)
 
-all_short : (ws : List (List ℕ)) → All (λ w. Short (name_of w)) ws
+all_short : (ws : List (List ℕ)) → AllByRecursion (λ w. Short (name_of w)) ws
 all_short [] = tt
 all_short (w ∷ ws) = (omega arith, all_short ws)
 
-names_short : (ws : List (List ℕ)) → All Short (names_in (name_table ws))
+names_short : (ws : List (List ℕ)) → AllByRecursion Short (names_in (name_table ws))
 names_short ws =
     All-take Short (min (length ws) 64) (filled 64 (name_of []) (map name_of ws))
     (filled_sound Short 64 (name_of []) (map name_of ws) (omega arith) (All-map Short name_of ws (all_short ws)))
@@ -84,17 +84,17 @@ module _ {X : Type 0} (meant : List ℕ → Option X) (wide : ℕ) (text : List 
   names_counted : length n.names ≡ min (length n.names) 64
   names_counted = let h = held.names in omega arith
 
-  rows_fit : All (Sound-row sheet.names.count sheet.statements sheet.constants) written
+  rows_fit : AllByRecursion (Sound-row sheet.names.count sheet.statements sheet.constants) written
   rows_fit =
-      subst (λ (k : ℕ). All (Sound-row k sheet.statements sheet.constants) written) names_counted
-      (subst (λ (k : ℕ). All (Sound-row (length n.names) k sheet.constants) written) held.labels
+      subst (λ (k : ℕ). AllByRecursion (Sound-row k sheet.statements sheet.constants) written) names_counted
+      (subst (λ (k : ℕ). AllByRecursion (Sound-row (length n.names) k sheet.constants) written) held.labels
       (rows_sound meant wide n.names n.labels sheet.constants 1 1 0 nothing (lines_of text) (accepted_lines reads text accepted) (told reads text accepted) (λ x h. h) (omega arith)))
 
-  taken_fit : All (Sound-row sheet.names.count sheet.statements sheet.constants) (take sheet.statements (over written rows))
+  taken_fit : AllByRecursion (Sound-row sheet.names.count sheet.statements sheet.constants) (take sheet.statements (over written rows))
   taken_fit =
       let P = Sound-row sheet.names.count sheet.statements sheet.constants in
       let l : sheet.statements ≤ length written = (let e = rows_counted in omega (arith, e)) in
-      subst (λ (xs : List Row). All P xs) (sym (take-append-le sheet.statements written (drop (length written) rows) l)) (All-take P sheet.statements written rows_fit)
+      subst (λ (xs : List Row). AllByRecursion P xs) (sym (take-append-le sheet.statements written (drop (length written) rows) l)) (All-take P sheet.statements written rows_fit)
 
   start_fits : Sound-next sheet.statements sheet.start
   start_fits = subst (λ (k : ℕ). Sound-next k sheet.start) held.labels (start_sound n.labels text (told reads text accepted))

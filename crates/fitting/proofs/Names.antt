@@ -1,6 +1,6 @@
 -- Words that stand among words have a number, and stand among more. Assumes nothing.
 use Rattle.std.proofs.Common.{◌≡◌, ℕ, zero, suc, ◌<◌, Bool, true, false, cond, not, ◌||◌, List, [], ◌∷◌, ◌++◌, length, get_or, Some, None, codes, Option, Result, sym, refl, arith}
-use Rattle.std.specs.List.{AllByRecursion as All}
+use Rattle.std.specs.List.{AllByRecursion}
 use Rattle.std.specs.Str.{bytes_eq}
 use Rattle.std.proofs.lemmas.Bool.{false≢true}
 use Rattle.symbols.specs.declared.fault.TextFault.{TextFault}
@@ -100,7 +100,7 @@ module _ (reads : List ℕ → Result ℕ TextFault) (s : List ℕ) where
   tokens_keep n (t ∷ ts) x h = tokens_keep (with_token reads s n t) ts x (token_keeps n t x h)
 
   -- every name of a line's tokens is there with them
-  pub tokens_bring : (n : Count) (ts : List Token) → All (λ t. brings_name s t ≡ true → Among (spelling s t) (count_from reads s n ts).names) ts
+  pub tokens_bring : (n : Count) (ts : List Token) → AllByRecursion (λ t. brings_name s t ≡ true → Among (spelling s t) (count_from reads s n ts).names) ts
   unfolding count_from
   tokens_bring n [] = tt
   tokens_bring n (t ∷ ts) =

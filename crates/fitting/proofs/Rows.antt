@@ -1,6 +1,6 @@
 -- The rows and the start of an accepted text fit the sheet. Assumes nothing.
 use Rattle.std.proofs.Common.{◌≡◌, ℕ, zero, suc, ◌+◌, ◌≤◌, min, Bool, true, false, cond, not, List, [], ◌∷◌, length, take, drop, replicate, Some, None, Option, Result, sym, refl, subst, ⊎_elim, arith}
-use Rattle.std.specs.List.{flat_map, AllByRecursion as All}
+use Rattle.std.specs.List.{flat_map, AllByRecursion}
 use Rattle.std.proofs.ByRecursion.{All-append, All-take, All-drop, All-weaker}
 use Rattle.std.proofs.lemmas.List.{length-append}
 use Rattle.std.proofs.lemmas.Bool.{false≢true, and_parts, not-true, or_cases, or_from}
@@ -45,7 +45,7 @@ use Rattle.fitting.proofs.Tokens.{good_tokens}
 
 -- what sound things give is sound
 module _ {A B : Type 0} (f : A → Option B) (P : A → Type 0) (Q : B → Type 0) (each : (x : A) → P x → Given Q (f x)) where
-  last_sound : (xs : List A) → All P xs → Given Q (last_given f xs)
+  last_sound : (xs : List A) → AllByRecursion P xs → Given Q (last_given f xs)
   unfolding last_given
   last_sound [] h = tt
   last_sound (x ∷ xs) h = go (last_given f xs) (f x) (last_sound xs h.1) (each x h.0)
@@ -54,20 +54,20 @@ module _ {A B : Type 0} (f : A → Option B) (P : A → Type 0) (Q : B → Type 
       go None b p q = q
       go (Some y) b p q = p
 
-  given_sound : (xs : List A) → All P xs → All Q (given f xs)
+  given_sound : (xs : List A) → AllByRecursion P xs → AllByRecursion Q (given f xs)
   unfolding given
   given_sound [] h = tt
   given_sound (x ∷ xs) h = go (f x) (each x h.0) (given_sound xs h.1)
     where
-      go : (o : Option B) → Given Q o → All Q (given f xs) → All Q (in_front o (given f xs))
+      go : (o : Option B) → Given Q o → AllByRecursion Q (given f xs) → AllByRecursion Q (in_front o (given f xs))
       go None p q = q
       go (Some y) p q = (p, q)
 
-all_same : {A : Type 0} (Q : A → Type 0) (n : ℕ) (x : A) → Q x → All Q (replicate n x)
+all_same : {A : Type 0} (Q : A → Type 0) (n : ℕ) (x : A) → Q x → AllByRecursion Q (replicate n x)
 all_same Q zero x h = tt
 all_same Q (suc n) x h = (h, all_same Q n x h)
 
-pub filled_sound : {A : Type 0} (Q : A → Type 0) (n : ℕ) (blank : A) (xs : List A) → Q blank → All Q xs → All Q (filled n blank xs)
+pub filled_sound : {A : Type 0} (Q : A → Type 0) (n : ℕ) (blank : A) (xs : List A) → Q blank → AllByRecursion Q xs → AllByRecursion Q (filled n blank xs)
 filled_sound Q n blank xs b h =
     All-append Q (take n xs) (drop (length (take n xs)) (replicate n blank)) (All-take Q n xs h)
     (All-drop Q (length (take n xs)) (replicate n blank) (all_same Q n blank b))
@@ -87,7 +87,7 @@ item_numbered n c (variable v) h = h.0
 
 module _ (n s c : ℕ) where
   abbrev Entries : List Entry → Type 0
-  Entries es = All (Sound-entry n s c) es
+  Entries es = AllByRecursion (Sound-entry n s c) es
 
   label_sound : (e : Entry) → Sound-entry n s c e → Given Short (label_in e)
   label_sound Entry.Nothing h = tt
@@ -158,7 +158,7 @@ module _ (n s c : ℕ) where
   no_literal : Sound-operand n c null
   no_literal = (omega arith, omega arith)
 
-  side_sound : (b : Bool) (xs : List Operand) → All (Sound-operand n c) xs → Given (Sound-side n c) (cond b (Some (right_side_of xs)) None)
+  side_sound : (b : Bool) (xs : List Operand) → AllByRecursion (Sound-operand n c) xs → Given (Sound-side n c) (cond b (Some (right_side_of xs)) None)
   side_sound false xs h = tt
   side_sound true xs h = (omega arith, All-take (Sound-operand n c) (min (length xs) 8) (filled 8 null xs) (filled_sound (Sound-operand n c) 8 null xs no_literal h))
 
@@ -212,7 +212,7 @@ module _ {X : Type 0} (meant : List ℕ → Option X) (wide : ℕ) (names labels
     Sound = Sound-row (length names) (length labels) constants
 
     line_sound : (at : ℕ) (l : List ℕ) → lands beginning l ≡ true → labelled_end l ≡ false
-        → All (λ t. brings_name l t ≡ true → Among (spelling l t) names) (tokens l) → unknown_from labels l (tokens l) ≡ None
+        → AllByRecursion (λ t. brings_name l t ≡ true → Among (spelling l t) names) (tokens l) → unknown_from labels l (tokens l) ≡ None
         → at + length (line_symbols meant wide l) ≤ constants → Sound (line_row meant wide names labels at l)
     line_sound at l stands other named told room =
         row_sound (length names) (length labels) constants (entries_from meant wide names labels l at (tokens l))
@@ -224,7 +224,7 @@ module _ {X : Type 0} (meant : List ℕ → Option X) (wide : ℕ) (names labels
 
     -- the names of a statement line are among those of the sheet
     line_named : (n : Brought) (l : List ℕ) (ls : List (List ℕ)) → passed n l ≡ false → ((x : List ℕ) → Among x (brought_by reads (with_line reads n l) ls).names → Among x names)
-        → All (λ t. brings_name l t ≡ true → Among (spelling l t) names) (tokens l)
+        → AllByRecursion (λ t. brings_name l t ≡ true → Among (spelling l t) names) (tokens l)
     unfolding with_line
     line_named n l ls p all =
         All-weaker (λ t. brings_name l t ≡ true → Among (spelling l t) (count_from reads l (none_yet n) (tokens l)).names) (λ t. brings_name l t ≡ true → Among (spelling l t) names)
@@ -236,7 +236,7 @@ module _ {X : Type 0} (meant : List ℕ → Option X) (wide : ℕ) (names labels
 
     pub rows_sound : (k j at : ℕ) (n : Brought) (ls : List (List ℕ)) → lines_refusal reads k n ls ≡ None → lines_unknown labels j ls ≡ None
         → ((x : List ℕ) → Among x (brought_by reads n ls).names → Among x names)
-        → at + length (flat_map (line_symbols meant wide) ls) ≤ constants → All Sound (rows_from meant wide names labels at ls)
+        → at + length (flat_map (line_symbols meant wide) ls) ≤ constants → AllByRecursion Sound (rows_from meant wide names labels at ls)
     unfolding lines_refusal lines_unknown brought_by rows_from
     rows_sound k j at n [] e u all room = tt
     rows_sound k j at n (l ∷ ls) e u all room =
@@ -250,7 +250,7 @@ module _ {X : Type 0} (meant : List ℕ → Option X) (wide : ℕ) (names labels
         rest = rows_from meant wide names labels (at + length (line_symbols meant wide l)) ls
 
         go : (b : Bool) → has_row l ≡ b → first (line_faults reads n l) ≡ None → unknown_from labels l (tokens l) ≡ None
-            → at + length (line_symbols meant wide l) ≤ constants → All Sound rest → All Sound (led b (line_row meant wide names labels at l) rest)
+            → at + length (line_symbols meant wide l) ≤ constants → AllByRecursion Sound rest → AllByRecursion Sound (led b (line_row meant wide names labels at l) rest)
         go false r f t i h = h
         go true r f t i h =
             let w = and_parts (not (idle l)) (not (labelled_end l)) r in
@@ -278,12 +278,12 @@ module _ (labels : List (List ℕ)) where
   token_start_sound line Role.OnS k n h = tt
   token_start_sound line Role.OnF k n h = tt
 
-  tokens_told : (line : List ℕ) (ts : List Token) → unknown_from labels line ts ≡ None → All (λ t. token_unknown labels line t ≡ None) ts
+  tokens_told : (line : List ℕ) (ts : List Token) → unknown_from labels line ts ≡ None → AllByRecursion (λ t. token_unknown labels line t ≡ None) ts
   unfolding unknown_from
   tokens_told line [] u = tt
   tokens_told line (t ∷ ts) u = let p = or_else_none (token_unknown labels line t) (unknown_from labels line ts) u in (p.0, tokens_told line ts p.1)
 
-  lines_told : (j : ℕ) (ls : List (List ℕ)) → lines_unknown labels j ls ≡ None → All (λ l. unknown_from labels l (tokens l) ≡ None) ls
+  lines_told : (j : ℕ) (ls : List (List ℕ)) → lines_unknown labels j ls ≡ None → AllByRecursion (λ l. unknown_from labels l (tokens l) ≡ None) ls
   unfolding lines_unknown
   lines_told j [] u = tt
   lines_told j (l ∷ ls) u = let p = refused_none (unknown_from labels l (tokens l)) j (lines_unknown labels (j + 1) ls) u in (p.0, lines_told (j + 1) ls p.1)

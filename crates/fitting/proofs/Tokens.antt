@@ -1,6 +1,6 @@
 -- The tokens of a statement line: each name has a character, and each fixed length is within its limit. Assumes nothing.
 use Rattle.std.proofs.Common.{◌≡◌, ℕ, ◌+◌, ◌-◌, ◌<◌, ◌≤◌, Bool, true, false, cond, not, ◌||◌, eqb, ltb, List, [], ◌∷◌, length, get_or, drop, Some, None, Option, sym, refl, ap, ◌∙◌, subst, arith}
-use Rattle.std.specs.List.{AllByRecursion as All}
+use Rattle.std.specs.List.{AllByRecursion}
 use Rattle.std.proofs.lemmas.Bool.{false≢true, both_ways, and_parts, ltb-true, eqb-true}
 use Rattle.std.proofs.lemmas.Bool.Decides.{nat_tests}
 use Rattle.lines.specs.declared.mark.Mark.TheVariants.{Dollar, Quote}
@@ -273,7 +273,7 @@ module _ (line : List ℕ) where
           subst (λ (j : ℕ). Sound-form (form_at line j)) z (good.formed (subst (λ (x : Role). same_role x Role.Variable ≡ true) e v))
 
   abbrev Tokens : ℕ → List Token → Type 0
-  Tokens k ts = From k ts × All (Good line) ts
+  Tokens k ts = From k ts × AllByRecursion (Good line) ts
 
   extended : (r : Role) (k : ℕ) (ts : List Token) → Tokens (k + 1) ts → ((Led r ts → ⊥) → Good line (token r k 1)) → Tokens k (extend k r 1 ts)
   extended r k [] h one = ((refl, omega arith), (one (λ x. x), tt))
@@ -296,6 +296,6 @@ module _ (line : List ℕ) where
       go (Some r) n m ih = extended (role_of r) k (runs (k + 1) (roles_from r s)) (ih r m) (alone q r k c s (here line k c s e) n m)
 
 -- every token of a line that stands
-pub good_tokens : (line : List ℕ) → lands beginning line ≡ true → All (Good line) (tokens line)
+pub good_tokens : (line : List ℕ) → lands beginning line ≡ true → AllByRecursion (Good line) (tokens line)
 unfolding tokens_from
 good_tokens line l = (good_from line beginning 0 line refl l).1

@@ -1,7 +1,7 @@
 -- The names once the variables took their parts: what is fetched of them fits. Assumes nothing.
 use Rattle.std.proofs.Common.{◌≡◌, ℕ, ◌-◌, ◌≤◌, Bool, true, false, cond, eqb, List, [], ◌∷◌, length, drop, Some, None, refl, ap, ◌∙◌, arith}
 use Rattle.std.proofs.lemmas.List.{length-take, length-drop}
-use Rattle.std.specs.List.{AllByRecursion as All}
+use Rattle.std.specs.List.{AllByRecursion}
 use Rattle.placings.specs.Pattern.{part}
 use Rattle.stores.specs.Names.{Names, Bounded, under}
 use Rattle.stores.specs.Puts.{put_or}
@@ -26,7 +26,7 @@ module _ {X : Type 0} where
   part_short : (s : List X) (a b room : ℕ) → length s ≤ room → length (part s a b) ≤ room
   part_short s a b room h = omega (arith, length-take (b - a) (drop a s), length-drop a s)
 
-  named_short : (subject : List X) (start : ℕ) (is : List Item) (es : List ℕ) (names : Names X) (n room k : ℕ) → length names.strings ≡ n → All (Numbered n) is → length subject ≤ room → ((j : ℕ) → length (under names j) ≤ room)
+  named_short : (subject : List X) (start : ℕ) (is : List Item) (es : List ℕ) (names : Names X) (n room k : ℕ) → length names.strings ≡ n → AllByRecursion (Numbered n) is → length subject ≤ room → ((j : ℕ) → length (under names j) ≤ room)
       → length (under (named subject start is es names) k) ≤ room
   unfolding named
   named_short subject start [] es names n room k len all h each = each k

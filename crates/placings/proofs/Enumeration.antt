@@ -1,6 +1,6 @@
 -- The enumeration lists the partial placings. Assumes nothing.
 use Rattle.std.proofs.Common.{◌≡◌, ℕ, zero, suc, ◌<◌, ◌≤◌, Bool, leb, List, [], ◌∷◌, length, get_or, take, Decides, ap, arith}
-use Rattle.std.specs.List.{ContainsAt as Has}
+use Rattle.std.specs.List.{ContainsAt}
 use Rattle.std.proofs.lemmas.List.{length-take-le, get_or-take}
 use Rattle.std.proofs.ByRecursion.{All-weaker}
 use Rattle.std.proofs.lemmas.Bool.{leb-true, le-leb}
@@ -54,7 +54,7 @@ module _ {A : Type 0} (eq : A → A → Bool) (dec : Equality A eq) (role : A �
         | suc i ↦ λ l. (h.within (suc i) l, (decides_next ps i l).1 (h.rising i l, h.suits i l))
       ])
 
-  listed : (ps : List ℕ) → Partial role mode s pattern ps → Has (partials eq role mode s pattern) ps
+  listed : (ps : List ℕ) → Partial role mode s pattern ps → ContainsAt (partials eq role mode s pattern) ps
   unfolding paths
   listed [] h = absurd (omega (arith, h.some))
   listed (c ∷ r) h = below_complete (may eq role mode s pattern) (length s) (suc (length pattern)) [] c r (omega (arith, h.few)) (goes_from (c ∷ r) h)

@@ -1,35 +1,35 @@
 -- What `below` lists is what there is below a path, in scan order. Assumes nothing.
 use Rattle.std.proofs.Common.{◌≡◌, ℕ, zero, suc, ◌+◌, ◌<◌, ◌≤◌, Bool, true, cond, ◌⊎◌, List, [], ◌∷◌, ◌++◌, length, get_or, take, sym, refl, ◌∙◌, subst, inl, inr, append_assoc, append-nil, arith}
-use Rattle.std.specs.List.{ContainsAt as Has, AllByRecursion as All}
+use Rattle.std.specs.List.{ContainsAt, AllByRecursion}
 use Rattle.std.proofs.ByRecursion.{All-append, All-weaker, has_append_left, has_append_right}
 use Rattle.std.proofs.lemmas.Bool.{cond_both, cond-true, cases_order}
 use Rattle.placings.specs.Order.{Before, Ascending}
 use Rattle.placings.specs.Tree.{push, run, below}
 use Rattle.placings.proofs.Order.{ascending_append}
 
-all_run : {X : Type 0} (P : X → Type 0) (f : ℕ → List X) (k lo : ℕ) → ((c : ℕ) → lo ≤ c → c < lo + k → All P (f c)) → All P (run f k lo)
+all_run : {X : Type 0} (P : X → Type 0) (f : ℕ → List X) (k lo : ℕ) → ((c : ℕ) → lo ≤ c → c < lo + k → AllByRecursion P (f c)) → AllByRecursion P (run f k lo)
 unfolding run
 all_run P f zero lo h = tt
 all_run P f (suc k) lo h =
     All-append P (f lo) (run f k (suc lo)) (h lo (omega arith) (omega arith)) (all_run P f k (suc lo) (λ c a b. h c (omega arith) (omega arith)))
 
-has_run : {X : Type 0} (f : ℕ → List X) (k lo c : ℕ) (x : X) → lo ≤ c → c < lo + k → Has (f c) x → Has (run f k lo) x
+has_run : {X : Type 0} (f : ℕ → List X) (k lo c : ℕ) (x : X) → lo ≤ c → c < lo + k → ContainsAt (f c) x → ContainsAt (run f k lo) x
 unfolding run
 has_run f zero lo c x a b h = absurd (omega arith)
 has_run f (suc k) lo c x a b h = go (cases_order lo c) (λ l. has_run f k (suc lo) c x l (omega arith) h)
   where
-    go : (lo ≡ c) ⊎ ((lo < c) ⊎ (c < lo)) → (lo < c → Has (run f k (suc lo)) x) → Has (f lo ++ run f k (suc lo)) x
+    go : (lo ≡ c) ⊎ ((lo < c) ⊎ (c < lo)) → (lo < c → ContainsAt (run f k (suc lo)) x) → ContainsAt (f lo ++ run f k (suc lo)) x
     go (inl e) ih = has_append_left (f lo) (run f k (suc lo)) x (rw e h)
     go (inr (inl l)) ih = has_append_right (f lo) (run f k (suc lo)) x (ih l)
     go (inr (inr l)) ih = absurd (omega arith)
 
-ascending_run : (f : ℕ → List (List ℕ)) (k lo : ℕ) → ((c : ℕ) → Ascending (f c)) → ((c e : ℕ) → c < e → All (λ x. All (Before x) (f e)) (f c)) → Ascending (run f k lo)
+ascending_run : (f : ℕ → List (List ℕ)) (k lo : ℕ) → ((c : ℕ) → Ascending (f c)) → ((c e : ℕ) → c < e → AllByRecursion (λ x. AllByRecursion (Before x) (f e)) (f c)) → Ascending (run f k lo)
 unfolding run
 ascending_run f zero lo a b = tt
 ascending_run f (suc k) lo a b =
     ascending_append (f lo) (run f k (suc lo)) (a lo) (ascending_run f k (suc lo) a b) (go (f lo) (λ e l. b lo e l))
   where
-    go : (xs : List (List ℕ)) → ((e : ℕ) → lo < e → All (λ x. All (Before x) (f e)) xs) → All (λ x. All (Before x) (run f k (suc lo))) xs
+    go : (xs : List (List ℕ)) → ((e : ℕ) → lo < e → AllByRecursion (λ x. AllByRecursion (Before x) (f e)) xs) → AllByRecursion (λ x. AllByRecursion (Before x) (run f k (suc lo))) xs
     go [] h = tt
     go (x ∷ xs) h = (all_run (Before x) f k (suc lo) (λ e l m. (h e l).0), go xs (λ e l. (h e l).1))
 
@@ -73,30 +73,30 @@ module _ (ok : List ℕ → ℕ → Bool) (n : ℕ) where
   abbrev kids : ℕ → List ℕ → ℕ → List (List ℕ)
   kids d p c = cond (ok p c) (push p c ∷ below ok n d (push p c)) []
 
-  kids_sound : (d : ℕ) (p : List ℕ) (c : ℕ) → All (Below d (push p c)) (below ok n d (push p c)) → All (Kid d p c) (kids d p c)
+  kids_sound : (d : ℕ) (p : List ℕ) (c : ℕ) → AllByRecursion (Below d (push p c)) (below ok n d (push p c)) → AllByRecursion (Kid d p c) (kids d p c)
   kids_sound d p c h =
-      cond_both (ok p c) (push p c ∷ below ok n d (push p c)) [] (All (Kid d p c))
+      cond_both (ok p c) (push p c ∷ below ok n d (push p c)) [] (AllByRecursion (Kid d p c))
       (λ e. (([], refl, e, omega arith, tt), All-weaker (Below d (push p c)) (Kid d p c) (λ q u. (u.0 ∷ u.1, u.2 ∙ append_assoc p (c ∷ []) (u.0 ∷ u.1), e, u.3, u.4)) (below ok n d (push p c)) h))
       (λ e. tt)
 
-  pub below_sound : (d : ℕ) (p : List ℕ) → All (Below d p) (below ok n d p)
+  pub below_sound : (d : ℕ) (p : List ℕ) → AllByRecursion (Below d p) (below ok n d p)
   unfolding below
   below_sound zero p = tt
   below_sound (suc d) p =
       all_run (Below (suc d) p) (kids d p) (suc n) 0 (λ c a b. All-weaker (Kid d p c) (Below (suc d) p) (λ q k. (c, k.0, k.1, omega arith, (omega arith, k.2, k.4))) (kids d p c) (kids_sound d p c (below_sound d (push p c))))
 
-  pub below_complete : (d : ℕ) (p : List ℕ) (c : ℕ) (r : List ℕ) → length r < d → Goes p (c ∷ r) → Has (below ok n d p) (p ++ c ∷ r)
+  pub below_complete : (d : ℕ) (p : List ℕ) (c : ℕ) (r : List ℕ) → length r < d → Goes p (c ∷ r) → ContainsAt (below ok n d p) (p ++ c ∷ r)
   unfolding below
   below_complete zero p c r l g = absurd (omega arith)
   below_complete (suc d) p c r l g =
       has_run (kids d p) (suc n) 0 c (p ++ c ∷ r) (omega arith) (omega (arith, g.0))
-      (subst (λ l. Has l (p ++ c ∷ r)) (sym (cond-true (ok p c) (push p c ∷ below ok n d (push p c)) [] g.1)) (go r l g.2 (λ e s. below_complete d (push p c) e s)))
+      (subst (λ l. ContainsAt l (p ++ c ∷ r)) (sym (cond-true (ok p c) (push p c ∷ below ok n d (push p c)) [] g.1)) (go r l g.2 (λ e s. below_complete d (push p c) e s)))
     where
-      go : (r : List ℕ) → length r < suc d → Goes (push p c) r → ((e : ℕ) (s : List ℕ) → length s < d → Goes (push p c) (e ∷ s) → Has (below ok n d (push p c)) (push p c ++ e ∷ s)) → Has (push p c ∷ below ok n d (push p c)) (p ++ c ∷ r)
+      go : (r : List ℕ) → length r < suc d → Goes (push p c) r → ((e : ℕ) (s : List ℕ) → length s < d → Goes (push p c) (e ∷ s) → ContainsAt (below ok n d (push p c)) (push p c ++ e ∷ s)) → ContainsAt (push p c ∷ below ok n d (push p c)) (p ++ c ∷ r)
       go [] l g ih = (0, omega arith, λ _. refl)
       go (e ∷ s) l g ih =
           has_append_right (push p c ∷ []) (below ok n d (push p c)) (p ++ c ∷ e ∷ s)
-          (subst (Has (below ok n d (push p c))) (append_assoc p (c ∷ []) (e ∷ s)) (ih e s (omega arith) g))
+          (subst (ContainsAt (below ok n d (push p c))) (append_assoc p (c ∷ []) (e ∷ s)) (ih e s (omega arith) g))
 
   pub below_ascending : (d : ℕ) (p : List ℕ) → Ascending (below ok n d p)
   unfolding below
@@ -109,8 +109,8 @@ module _ (ok : List ℕ → ℕ → Bool) (n : ℕ) where
           (λ e. (All-weaker (Below d (push p c)) (Before (push p c)) (λ q u. subst (Before (push p c)) (sym u.2) (before_below (push p c) u.0 u.1)) (below ok n d (push p c)) (below_sound d (push p c)), ih (push p c)))
           (λ e. tt)
 
-      two : (c e : ℕ) → c < e → All (λ x. All (Before x) (kids d p e)) (kids d p c)
+      two : (c e : ℕ) → c < e → AllByRecursion (λ x. AllByRecursion (Before x) (kids d p e)) (kids d p c)
       two c e l =
-          All-weaker (Kid d p c) (λ x. All (Before x) (kids d p e))
+          All-weaker (Kid d p c) (λ x. AllByRecursion (Before x) (kids d p e))
           (λ x k. All-weaker (Kid d p e) (Before x) (λ y m. rw (k.1, m.1) (before_beside p c e k.0 m.0 l)) (kids d p e) (kids_sound d p e (below_sound d (push p e))))
           (kids d p c) (kids_sound d p c (below_sound d (push p c)))

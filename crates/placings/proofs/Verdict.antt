@@ -1,6 +1,6 @@
 -- The first placing of the enumeration is the first in scan order, and there is one exactly where there is a placing. Assumes nothing.
 use Rattle.std.proofs.Common.{◌≡◌, ℕ, suc, ◌+◌, Bool, true, false, cond, eqb, ◌⊎◌, List, [], ◌∷◌, ◌++◌, length, Some, None, Decides, Option, sym, refl, ap, ◌∙◌, subst, inl, inr, arith}
-use Rattle.std.specs.List.{AllByRecursion as All}
+use Rattle.std.specs.List.{AllByRecursion}
 use Rattle.std.proofs.ByRecursion.{All-append, All-weaker, all-has}
 use Rattle.std.proofs.lemmas.Bool.{false≢true}
 use Rattle.std.proofs.lemmas.Bool.Decides.{Decides-eqb}
@@ -24,12 +24,12 @@ module _ (m : ℕ) where
     pub behind : List (List ℕ)
     pub is : xs ≡ ahead ++ p ∷ behind
     pub whole : length p ≡ suc m
-    pub short : All Short ahead
+    pub short : AllByRecursion Short ahead
     pub counted : t ≡ length ahead + 1
 
   -- the first of m elements in xs and the trials, or none and all of xs
   abbrev pub Cut : List (List ℕ) → Option (List ℕ) → ℕ → Type 0
-  Cut xs None t = All Short xs × (t ≡ length xs)
+  Cut xs None t = AllByRecursion Short xs × (t ≡ length xs)
   Cut xs (Some p) t = Found xs p t
 
   cut_more : (x : List ℕ) (xs : List (List ℕ)) (b : Bool) → Decides b (length x ≡ suc m) → (o : Option (List ℕ)) (t : ℕ) → Cut xs o t → Cut (x ∷ xs) (cond b (Some x) o) (cond b 1 (suc t))
@@ -61,7 +61,7 @@ module _ {A : Type 0} (eq : A → A → Bool) (role : A → Role) (mode : Mode) 
   abbrev Later : List ℕ → List ℕ → Type 0
   Later p q = length q ≡ suc (length pattern) → (q ≡ p) ⊎ Before p q
 
-  all_later : (xs ys : List (List ℕ)) (p : List ℕ) → Ascending (xs ++ p ∷ ys) → All (Short (length pattern)) xs → All (Later p) (xs ++ p ∷ ys)
+  all_later : (xs ys : List (List ℕ)) (p : List ℕ) → Ascending (xs ++ p ∷ ys) → AllByRecursion (Short (length pattern)) xs → AllByRecursion (Later p) (xs ++ p ∷ ys)
   all_later xs ys p a h =
       All-append (Later p) xs (p ∷ ys)
       (All-weaker (Short (length pattern)) (Later p) (λ q n l. absurd (n l)) xs h)

@@ -1,6 +1,6 @@
 -- The theorems: what the enumeration, its first placing, its count and its answer are in terms of placings. Assumes nothing.
 use Rattle.std.specs.Prelude.{◌≡◌, ℕ, Bool, List, Some, None, Decides}
-use Rattle.std.specs.List.{ContainsAt as Has, AllByRecursion as All}
+use Rattle.std.specs.List.{ContainsAt, AllByRecursion}
 use Rattle.symbols.specs.declared.role.Role.{Role}
 use Rattle.placings.specs.declared.mode.Mode.{Mode}
 use Rattle.placings.specs.Pattern.{Element}
@@ -19,8 +19,8 @@ ForAll A P = (eq : A → A → Bool) → Equality A eq → (role : A → Role) (
 
 -- the enumeration: the partial placings, all of them and nothing else, in scan order
 pub record Enumerates {A : Type 0} (eq : A → A → Bool) (role : A → Role) (mode : Mode) (s : List A) (pattern : List (Element A)) : Type 0 where
-  pub sound : All (Partial role mode s pattern) (partials eq role mode s pattern)
-  pub complete : (p : List ℕ) → Partial role mode s pattern p → Has (partials eq role mode s pattern) p
+  pub sound : AllByRecursion (Partial role mode s pattern) (partials eq role mode s pattern)
+  pub complete : (p : List ℕ) → Partial role mode s pattern p → ContainsAt (partials eq role mode s pattern) p
   pub ascending : Ascending (partials eq role mode s pattern)
 
 -- the verdict: there is one exactly where there is a placing, and it is the first placing

@@ -1,6 +1,6 @@
 -- The row of a statement by its number. Assumes nothing.
 use Rattle.std.proofs.Common.{◌≡◌, ℕ, zero, suc, ◌-◌, ◌<◌, ◌≤◌, List, [], ◌∷◌, length, get_or, Some, None, sym, refl, ap, ◌∙◌, subst, arith}
-use Rattle.std.specs.List.{AllByRecursion as All}
+use Rattle.std.specs.List.{AllByRecursion}
 use Rattle.tables.specs.declared.row.Row.{Row}
 use Rattle.session.specs.Steps.{at, row_of}
 
@@ -17,7 +17,7 @@ at_none zero (x ∷ xs) h = absurd (omega arith)
 at_none (suc k) (x ∷ xs) h = at_none k xs (omega arith)
 
 -- what holds of all elements holds of the one at a place
-pub at_all : {A : Type 0} (P : A → Type 0) (xs : List A) → All P xs → (k : ℕ) (x : A) → at k xs ≡ Some x → P x
+pub at_all : {A : Type 0} (P : A → Type 0) (xs : List A) → AllByRecursion P xs → (k : ℕ) (x : A) → at k xs ≡ Some x → P x
 unfolding at
 at_all P [] h k x e = let z : ◌≡◌ {A = ℕ} 0 1 = cc in absurd (omega arith)
 at_all P (y ∷ ys) h zero x e = let z : y ≡ x = cc in subst P z h.0
@@ -32,6 +32,6 @@ row_past rows zero h = absurd (omega arith)
 row_past rows (suc k) h = sym (at_none k rows (omega arith))
 
 -- a row that is there is one of all
-pub row_all : (P : Row → Type 0) (rows : List Row) → All P rows → (k : ℕ) (row : Row) → row_of rows k ≡ Some row → P row
+pub row_all : (P : Row → Type 0) (rows : List Row) → AllByRecursion P rows → (k : ℕ) (row : Row) → row_of rows k ≡ Some row → P row
 row_all P rows h zero row e = let z : ◌≡◌ {A = ℕ} 0 1 = cc in absurd (omega arith)
 row_all P rows h (suc k) row e = at_all P rows h k row e

@@ -1,7 +1,7 @@
 -- Tokens further right have faults further right, so the first token with a fault has the one that counts. Assumes nothing.
 use Rattle.std.proofs.Common.{◌≡◌, ℕ, ◌+◌, ◌-◌, ◌<◌, ◌≤◌, Bool, true, false, cond, ◌&&◌, eqb, ltb, leb, List, [], ◌∷◌, ◌++◌, length, get_or, drop, Some, None, Ok, Err, Option, Result, sym, refl, ap, ◌∙◌, subst, arith, length-take, ltb-true}
 use native.Mathlib.Nat.{min-le_left}
-use Rattle.std.specs.List.{AllByRecursion as All}
+use Rattle.std.specs.List.{AllByRecursion}
 use Rattle.std.proofs.ByRecursion.{All-append, All-weaker}
 use Rattle.std.proofs.lemmas.Bool.Decides.{nat_tests}
 use Rattle.lines.specs.declared.token.Token.{Token}
@@ -23,7 +23,7 @@ Between k e f = (k < f.column) × (f.column ≤ e)
 abbrev After : ℕ → Fault → Type 0
 After k f = k < f.column
 
-when_all : (P : Fault → Type 0) (b : Bool) (f : Fault) → (b ≡ true → P f) → All P (when b f)
+when_all : (P : Fault → Type 0) (b : Bool) (f : Fault) → (b ≡ true → P f) → AllByRecursion P (when b f)
 when_all P true f h = (h refl, tt)
 when_all P false f h = tt
 
@@ -52,7 +52,7 @@ unfolding part_of
 part_short s p = subst (λ (n : ℕ). n ≤ p.size) (sym (length-take p.size (drop p.start s))) (min-le_left p.size (length (drop p.start s)))
 
 -- the fault that counts of a list has what all have
-first_has : (P : Fault → Type 0) (fs : List Fault) → All P fs → (g : Fault) → first fs ≡ Some g → P g
+first_has : (P : Fault → Type 0) (fs : List Fault) → AllByRecursion P fs → (g : Fault) → first fs ≡ Some g → P g
 first_has P [] a g e = absurd (let z : ◌≡◌ {A = ℕ} 0 1 = cc in omega arith)
 first_has P (f ∷ fs) a g e = go (first_has P fs a.1) (first fs) refl e
   where
@@ -65,7 +65,7 @@ first_has P (f ∷ fs) a g e = go (first_has P fs a.1) (first fs) refl e
         pick false r k = subst P (let z : f ≡ g = cc in z) a.0
 
 -- faults up to e come before faults behind e
-nearer : (fs gs : List Fault) (e : ℕ) → All (λ f. f.column ≤ e) fs → All (After e) gs → least (first fs) (first gs) ≡ or_else (first fs) (first gs)
+nearer : (fs gs : List Fault) (e : ℕ) → AllByRecursion (λ f. f.column ≤ e) fs → AllByRecursion (After e) gs → least (first fs) (first gs) ≡ or_else (first fs) (first gs)
 nearer fs gs e a b = go (first fs) (first gs) refl refl
   where
     go : (o p : Option Fault) → first fs ≡ o → first gs ≡ p → least o p ≡ or_else o p
@@ -83,18 +83,18 @@ module _ (reads : List ℕ → Result ℕ TextFault) (bounded : (c : List ℕ) (
     abbrev Here : Fault → Type 0
     Here = Between t.start (t.start + t.size)
 
-    long_here : All Here (long_name s t)
+    long_here : AllByRecursion Here (long_name s t)
     long_here =
         when_all Here (sort_limited (sort_of t.role) && ltb 16 (word s t).size) (fault ((word s t).start + 1) Cause.LongName)
         (λ e. let l = ltb-true 16 (word s t).size (and_second (sort_limited (sort_of t.role)) (ltb 16 (word s t).size) e) in
         let w = word_start s t some in (omega (arith, w.0, w.1), omega (arith, w.0, w.1)))
 
-    ninth_here : All Here (ninth n.elements n.operands t)
+    ninth_here : AllByRecursion Here (ninth n.elements n.operands t)
     ninth_here =
         when_all Here (leb 8 (opened_before (opened_by t.role) n.elements n.operands)) (fault (t.start + 1) Cause.TooMany)
         (λ e. (omega arith, omega arith))
 
-    extra_here : All Here (extra_name s n t)
+    extra_here : AllByRecursion Here (extra_name s n t)
     extra_here =
         when_all Here (brings_name s t && (leb 64 (length n.names) && absent (position (spelling s t) n.names))) (fault ((word s t).start + 1) Cause.TooMany)
         (λ e. let l = ltb-true 0 (word s t).size
@@ -102,14 +102,14 @@ module _ (reads : List ℕ → Result ℕ TextFault) (bounded : (c : List ℕ) (
         (and_first (brings_name s t) (leb 64 (length n.names) && absent (position (spelling s t) n.names)) e)) in
         let w = word_start s t some in (omega (arith, w.0, w.1), omega (arith, w.0, w.1)))
 
-    literal_here : All Here (literal_faults (literal reads s t) n.symbols t)
+    literal_here : AllByRecursion Here (literal_faults (literal reads s t) n.symbols t)
     literal_here = go (is_literal s t) refl
       where
-        inner : (r : Result ℕ TextFault) → ((f : TextFault) → r ≡ Err f → f.at + 2 ≤ t.size) → All Here (literal_faults r n.symbols t)
+        inner : (r : Result ℕ TextFault) → ((f : TextFault) → r ≡ Err f → f.at + 2 ≤ t.size) → AllByRecursion Here (literal_faults r n.symbols t)
         inner (Ok k) h = when_all Here (ltb 4096 (n.symbols + k)) (fault (t.start + 1) Cause.TooMany) (λ e. (omega arith, omega arith))
         inner (Err f) h = let l = h f refl in ((omega arith, omega arith), tt)
 
-        go : (b : Bool) → is_literal s t ≡ b → All Here (literal_faults (cond b (reads (part_of s (contents t))) (Ok 0)) n.symbols t)
+        go : (b : Bool) → is_literal s t ≡ b → AllByRecursion Here (literal_faults (cond b (reads (part_of s (contents t))) (Ok 0)) n.symbols t)
         go true e =
             inner (reads (part_of s (contents t)))
             (λ f p. let l = bounded (part_of s (contents t)) f p in
@@ -119,7 +119,7 @@ module _ (reads : List ℕ → Result ℕ TextFault) (bounded : (c : List ℕ) (
             omega (arith, l, m, c))
         go false e = when_all Here (ltb 4096 (n.symbols + 0)) (fault (t.start + 1) Cause.TooMany) (λ e. (omega arith, omega arith))
 
-    token_here : All Here (token_faults reads s n t)
+    token_here : AllByRecursion Here (token_faults reads s n t)
     unfolding token_faults
     token_here =
         All-append Here ((long_name s t ++ ninth n.elements n.operands t) ++ extra_name s n t) (literal_faults (literal reads s t) n.symbols t)
@@ -128,7 +128,7 @@ module _ (reads : List ℕ → Result ℕ TextFault) (bounded : (c : List ℕ) (
         literal_here
 
   -- the faults of tokens from k on lie behind k
-  later : (n : Count) (k e : ℕ) (ts : List Token) → Abut k ts e → All (After k) (faults_from reads s n ts)
+  later : (n : Count) (k e : ℕ) (ts : List Token) → Abut k ts e → AllByRecursion (After k) (faults_from reads s n ts)
   unfolding faults_from
   later n k e [] h = tt
   later n k e (t ∷ ts) h =
@@ -146,6 +146,6 @@ module _ (reads : List ℕ → Result ℕ TextFault) (bounded : (c : List ℕ) (
       first_append (token_faults reads s n t) (faults_from reads s (with_token reads s n t) ts)
       ∙ nearer (token_faults reads s n t) (faults_from reads s (with_token reads s n t) ts) (t.start + t.size)
       (All-weaker (Between t.start (t.start + t.size)) (λ f. f.column ≤ t.start + t.size) (λ f b. b.1) (token_faults reads s n t) (token_here n t h.1))
-      (subst (λ (j : ℕ). All (After j) (faults_from reads s (with_token reads s n t) ts)) (let a = h.0 in omega (arith, a))
+      (subst (λ (j : ℕ). AllByRecursion (After j) (faults_from reads s (with_token reads s n t) ts)) (let a = h.0 in omega (arith, a))
       (later (with_token reads s n t) (k + t.size) e ts h.2))
       ∙ ap (or_else (first (token_faults reads s n t))) (first_ascends (with_token reads s n t) (k + t.size) e ts h.2)

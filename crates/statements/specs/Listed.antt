@@ -1,6 +1,6 @@
 -- What a listing tells, and which statements of it may be carried out over the names of a store. Assumes nothing.
 use Rattle.std.specs.Prelude.{◌≤◌, length}
-use Rattle.std.specs.List.{AllByRecursion as All}
+use Rattle.std.specs.List.{AllByRecursion}
 use Rattle.stores.specs.Names.{Names}
 use Rattle.tables.specs.declared.row.Row.{Row}
 use Rattle.tables.specs.declared.sheet.NameTable.{NameTable}
@@ -18,4 +18,4 @@ listed lent = record { names = lent.names.now; rows = lent.rows.now; constants =
 pub record Carriable {X : Type 0} (names : Names X) (table : NameTable) (row : Row) : Type 0 where
   pub known : table.count ≤ length names.strings
   pub reference : In (length names.strings) (number_in row.reference)
-  pub variables : All (Numbered (length names.strings)) (items_in row.pattern)
+  pub variables : AllByRecursion (Numbered (length names.strings)) (items_in row.pattern)

@@ -6,7 +6,7 @@ use Rattle.std.proofs.lemmas.Bool.Decides.{Decides-and, Decides-at, Decides-like
 use Rattle.std.specs.List.{AllByRecursion}
 use Rattle.tables.specs.Lookups.{names_in}
 use Rattle.tables.specs.Tables.{counts}
-use Rattle.tables.specs.declared.row.Row.{Row}
+use Rattle.tables.specs.Rows.{Row}
 use Rattle.tables.specs.declared.sheet.Counts.{Counts}
 use Rattle.tables.specs.declared.sheet.Sheet.{Sheet}
 use Rattle.checks.specs.Limits.{most_statements, most_names, most_constants}

@@ -16,7 +16,7 @@ use Rattle.tables.specs.declared.row.Pattern.{Pattern}
 use Rattle.tables.specs.declared.row.Reference.{Reference}
 use Rattle.tables.specs.declared.row.Reference.TheVariants.{Named, Through}
 use Rattle.tables.specs.declared.row.RightSide.{RightSide}
-use Rattle.tables.specs.declared.row.Row.{Row}
+use Rattle.tables.specs.Rows.{Row}
 use Rattle.tables.specs.declared.row.Target.{Target}
 use Rattle.tables.specs.declared.row.Target.TheVariants.{To, Through as through}
 use Rattle.tables.specs.declared.sheet.Counts.{Counts}

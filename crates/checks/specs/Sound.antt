@@ -14,7 +14,7 @@ use Rattle.tables.specs.declared.row.Next.TheVariants.{Statement, End}
 use Rattle.tables.specs.declared.row.Operand.{Operand}
 use Rattle.tables.specs.declared.row.Operand.TheVariants.{Literal, Contents}
 use Rattle.tables.specs.declared.row.RightSide.{RightSide}
-use Rattle.tables.specs.declared.row.Row.{Row}
+use Rattle.tables.specs.Rows.{Row}
 use Rattle.tables.specs.declared.row.Target.{Target}
 use Rattle.tables.specs.declared.row.Target.TheVariants.{To, Through}
 use Rattle.tables.specs.declared.sheet.Counts.{Counts}

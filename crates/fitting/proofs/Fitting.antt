@@ -17,7 +17,7 @@ use Rattle.sheets.specs.Tallies.{counts}
 use Rattle.sheets.proofs.Accepted.{accepted_lines}
 use Rattle.tables.specs.Lookups.{names_in}
 use Rattle.tables.specs.Tables.{counts as Counts-of}
-use Rattle.tables.specs.declared.row.Row.{Row}
+use Rattle.tables.specs.Rows.{Row}
 use Rattle.tables.specs.declared.sheet.Counts.{Counts}
 use Rattle.tables.specs.declared.sheet.Sheet.{Sheet}
 use Rattle.load.specs.Fills.{filled}

@@ -28,7 +28,7 @@ use Rattle.tables.specs.declared.row.Item.TheVariants.{Operand as operand, Varia
 use Rattle.tables.specs.declared.row.Next.{Next}
 use Rattle.tables.specs.declared.row.Operand.{Operand}
 use Rattle.tables.specs.declared.row.Reference.{Reference}
-use Rattle.tables.specs.declared.row.Row.{Row}
+use Rattle.tables.specs.Rows.{Row}
 use Rattle.load.specs.declared.entry.Entry.{Entry}
 use Rattle.load.specs.Entries.{entry_of, entries_from}
 use Rattle.load.specs.Fills.{filled}

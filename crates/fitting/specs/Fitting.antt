@@ -2,7 +2,7 @@
 use Rattle.std.specs.Prelude.{◌≡◌, ℕ, ◌≤◌, true, List, length, None, Option}
 use Rattle.symbols.specs.Answers.{over}
 use Rattle.tables.specs.Tables.{counts}
-use Rattle.tables.specs.declared.row.Row.{Row}
+use Rattle.tables.specs.Rows.{Row}
 use Rattle.load.specs.Tables.{load_refusal, sheet_rows, sheet_of}
 use Rattle.checks.specs.Fits.{sheet_fits, admits}
 

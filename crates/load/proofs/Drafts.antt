@@ -7,7 +7,7 @@ use Rattle.tables.specs.declared.row.Operand.{Operand}
 use Rattle.tables.specs.declared.row.Pattern.{Pattern}
 use Rattle.tables.specs.declared.row.Reference.{Reference}
 use Rattle.tables.specs.declared.row.RightSide.{RightSide}
-use Rattle.tables.specs.declared.row.Row.{Row}
+use Rattle.tables.specs.Rows.{Row}
 use Rattle.tables.specs.declared.row.Target.{Target}
 use Rattle.load.specs.declared.draft.Draft.{Draft}
 use Rattle.load.specs.declared.entry.Entry.{Entry}

@@ -13,7 +13,7 @@ use Rattle.sheets.specs.Items.{contents}
 use Rattle.sheets.specs.Parts.{part_of}
 use Rattle.sheets.specs.Tallies.{is_literal, literal, placed}
 use Rattle.tables.specs.declared.row.Operand.{Operand}
-use Rattle.tables.specs.declared.row.Row.{Row}
+use Rattle.tables.specs.Rows.{Row}
 use Rattle.load.specs.declared.draft.Draft.{Draft}
 use Rattle.load.specs.Drafts.{no_draft, entered, finished}
 use Rattle.load.specs.Entries.{entry_of, entries_from}

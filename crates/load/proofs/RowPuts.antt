@@ -2,7 +2,7 @@
 use Rattle.std.proofs.Common.{◌≡◌, ℕ, zero, suc, ◌+◌, ◌-◌, ◌<◌, ◌≤◌, Bool, true, false, cond, List, [], ◌∷◌, length, take, drop, set, Option, sym, refl, ap, ◌∙◌, le_of_suc-le-suc, not-suc-le-zero, add-one, arith, length-drop, length-take-le}
 use Rattle.symbols.specs.Answers.{over}
 use Rattle.constants.specs.Constants.{line_symbols}
-use Rattle.tables.specs.declared.row.Row.{Row}
+use Rattle.tables.specs.Rows.{Row}
 use Rattle.load.specs.Rows.{has_row, led, line_row, rows_from}
 use Rattle.sheets.specs.Sheets.{lines_of, line_length}
 use Rattle.sheets.proofs.Cuts.{lines_at, lines_end}

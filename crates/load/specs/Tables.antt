@@ -7,7 +7,7 @@ use Rattle.sheets.specs.Labels.{nowhere, brought, text_refusal}
 use Rattle.sheets.specs.LineFaults.{Brought}
 use Rattle.sheets.specs.Sheets.{lines_of}
 use Rattle.sheets.specs.Tallies.{counts}
-use Rattle.tables.specs.declared.row.Row.{Row}
+use Rattle.tables.specs.Rows.{Row}
 use Rattle.tables.specs.declared.sheet.Sheet.{Sheet}
 use Rattle.load.specs.Names.{name_table}
 use Rattle.load.specs.Rows.{rows_from}

@@ -1,7 +1,7 @@
 -- The row of a statement by its number. Assumes nothing.
 use Rattle.std.proofs.Common.{◌≡◌, ℕ, zero, suc, ◌-◌, ◌<◌, ◌≤◌, List, [], ◌∷◌, length, get_or, Some, None, sym, refl, ap, ◌∙◌, subst, arith}
 use Rattle.std.specs.List.{AllByRecursion}
-use Rattle.tables.specs.declared.row.Row.{Row}
+use Rattle.tables.specs.Rows.{Row}
 use Rattle.session.specs.Steps.{at, row_of}
 
 at_some : {A : Type 0} (k : ℕ) (xs : List A) (d : A) → k < length xs → at k xs ≡ Some (get_or xs k d)

@@ -15,7 +15,7 @@ use Rattle.scan.proofs.Saying.{answer_says}
 use Rattle.stores.specs.Names.{Names, under}
 use Rattle.tables.specs.declared.row.Next.{Next}
 use Rattle.tables.specs.declared.row.RightSide.{RightSide}
-use Rattle.tables.specs.declared.row.Row.{Row}
+use Rattle.tables.specs.Rows.{Row}
 use Rattle.tables.specs.declared.row.Target.{Target}
 use Rattle.tables.specs.declared.sheet.Tables.{Tables}
 use Rattle.tables.specs.Tables.{Tabled, tabled}

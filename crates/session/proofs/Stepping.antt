@@ -4,7 +4,7 @@ use Rattle.std.proofs.lemmas.Bool.{and_parts, or_parts, leb-true, ltb-false}
 use Rattle.symbols.specs.declared.role.Role.{Role}
 use Rattle.placings.specs.declared.mode.Mode.{Mode}
 use Rattle.stores.specs.Names.{Names}
-use Rattle.tables.specs.declared.row.Row.{Row}
+use Rattle.tables.specs.Rows.{Row}
 use Rattle.tables.specs.declared.sheet.NameTable.{NameTable}
 use Rattle.tables.specs.declared.sheet.Tables.{Tables}
 use Rattle.tables.specs.Tables.{Tabled, tabled}

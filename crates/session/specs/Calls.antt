@@ -9,7 +9,7 @@ use Rattle.stores.specs.Names.{Names, under}
 use Rattle.stores.specs.Calls.{put_refusal, fetch_refusal}
 use Rattle.tables.specs.Lookups.{name_number}
 use Rattle.tables.specs.Tables.{counts}
-use Rattle.tables.specs.declared.row.Row.{Row}
+use Rattle.tables.specs.Rows.{Row}
 use Rattle.tables.specs.declared.sheet.Sheet.{Sheet}
 use Rattle.tables.specs.declared.sheet.Tables.{Tables}
 use Rattle.checks.specs.Fits.{numbered, admits}

@@ -8,7 +8,7 @@ use Rattle.placings.specs.Says.{Says}
 use Rattle.scan.specs.declared.answer.Scanned.{Scanned}
 use Rattle.scan.specs.Answers.{heard}
 use Rattle.stores.specs.Names.{under}
-use Rattle.tables.specs.declared.row.Row.{Row}
+use Rattle.tables.specs.Rows.{Row}
 use Rattle.tables.specs.declared.sheet.Tables.{Tables}
 use Rattle.tables.specs.Tables.{tabled}
 use Rattle.patterns.specs.Gathered.{items_in}

@@ -6,7 +6,7 @@ use Rattle.scan.specs.declared.answer.Verdict.{Verdict}
 use Rattle.scan.specs.declared.answer.Verdict.TheVariants as verdict
 use Rattle.tables.specs.declared.row.Next.{Next}
 use Rattle.tables.specs.declared.row.Next.TheVariants.{Statement, End}
-use Rattle.tables.specs.declared.row.Row.{Row}
+use Rattle.tables.specs.Rows.{Row}
 use Rattle.tables.specs.declared.sheet.Tables.{Tables}
 use Rattle.tables.specs.Tables.{Tabled, tabled}
 use Rattle.statements.specs.declared.refusal.StatementRefusal.{StatementRefusal}

@@ -18,7 +18,7 @@ use Rattle.stores.specs.Names.{Names, under}
 use Rattle.tables.specs.declared.row.Item.{Item}
 use Rattle.tables.specs.declared.row.Reference.{Reference}
 use Rattle.tables.specs.declared.row.Reference.TheVariants.{Named, Through}
-use Rattle.tables.specs.declared.row.Row.{Row}
+use Rattle.tables.specs.Rows.{Row}
 use Rattle.tables.specs.declared.sheet.NameTable.{NameTable}
 use Rattle.tables.specs.Limits.{longest_name}
 use Rattle.tables.specs.Lookups.{spelled, names_in, name_number, First}

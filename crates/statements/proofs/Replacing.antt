@@ -7,7 +7,7 @@ use Rattle.stores.specs.Puts.{put_or}
 use Rattle.stores.proofs.Puts.{under_with}
 use Rattle.tables.specs.declared.row.Item.{Item}
 use Rattle.tables.specs.declared.row.RightSide.{RightSide}
-use Rattle.tables.specs.declared.row.Row.{Row}
+use Rattle.tables.specs.Rows.{Row}
 use Rattle.tables.specs.Tables.{Tabled}
 use Rattle.changes.specs.Limits.{over_limits}
 use Rattle.changes.specs.Success.{Success, In}

@@ -5,7 +5,7 @@ use Rattle.scan.specs.declared.answer.Verdict.{Verdict}
 use Rattle.scan.specs.declared.answer.Verdict.TheVariants.{Success, Failure}
 use Rattle.stores.specs.Names.{Names, under}
 use Rattle.tables.specs.declared.row.Next.{Next}
-use Rattle.tables.specs.declared.row.Row.{Row}
+use Rattle.tables.specs.Rows.{Row}
 use Rattle.tables.specs.declared.row.RightSide.{RightSide}
 use Rattle.tables.specs.Tables.{Tabled}
 use Rattle.patterns.specs.Gathered.{items_in}

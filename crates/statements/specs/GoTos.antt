@@ -4,7 +4,7 @@ use Rattle.std.specs.List.{flat_map}
 use Rattle.stores.specs.Names.{Names, under}
 use Rattle.tables.specs.declared.row.Next.{Next}
 use Rattle.tables.specs.declared.row.Next.TheVariants.{Statement, End}
-use Rattle.tables.specs.declared.row.Row.{Row}
+use Rattle.tables.specs.Rows.{Row}
 use Rattle.tables.specs.declared.row.Target.{Target}
 use Rattle.tables.specs.declared.row.Target.TheVariants.{To, Through}
 use Rattle.tables.specs.Limits.{longest_name}

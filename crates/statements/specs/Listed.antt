@@ -2,7 +2,7 @@
 use Rattle.std.specs.Prelude.{◌≤◌, length}
 use Rattle.std.specs.List.{AllByRecursion}
 use Rattle.stores.specs.Names.{Names}
-use Rattle.tables.specs.declared.row.Row.{Row}
+use Rattle.tables.specs.Rows.{Row}
 use Rattle.tables.specs.declared.sheet.NameTable.{NameTable}
 use Rattle.tables.specs.Tables.{Tabled}
 use Rattle.patterns.specs.Gathered.{items_in}

@@ -2,7 +2,7 @@
 use Rattle.std.specs.Prelude.{ℕ, cond, List, Some, None, Ok, Err, Option, Result}
 use Rattle.stores.specs.Names.{Names}
 use Rattle.tables.specs.declared.row.Next.{Next}
-use Rattle.tables.specs.declared.row.Row.{Row}
+use Rattle.tables.specs.Rows.{Row}
 use Rattle.tables.specs.declared.row.Target.{Target}
 use Rattle.changes.specs.Limits.{over_limits}
 use Rattle.statements.specs.declared.refusal.StatementRefusal.{StatementRefusal}

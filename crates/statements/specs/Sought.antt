@@ -10,7 +10,7 @@ use Rattle.scan.specs.declared.answer.Verdict.TheVariants.{Success}
 use Rattle.scan.specs.declared.element.Element as scan
 use Rattle.scan.specs.Answers.{placed, returned, scan_answer}
 use Rattle.stores.specs.Names.{Names, under}
-use Rattle.tables.specs.declared.row.Row.{Row}
+use Rattle.tables.specs.Rows.{Row}
 use Rattle.tables.specs.declared.sheet.NameTable.{NameTable}
 use Rattle.patterns.specs.Gathered.{items_in}
 use Rattle.patterns.specs.Meant.{meant}

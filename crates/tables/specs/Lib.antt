@@ -1,3 +1,4 @@
 pub mod Limits
 pub mod Lookups
+pub mod Rows
 pub mod Tables

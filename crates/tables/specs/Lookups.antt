@@ -5,7 +5,7 @@ use Rattle.std.specs.Str.{bytes_eq}
 use Rattle.tables.specs.declared.name.Name.{Name}
 use Rattle.tables.specs.declared.row.Next.{Next}
 use Rattle.tables.specs.declared.row.Next.TheVariants.{Statement, End}
-use Rattle.tables.specs.declared.row.Row.{Row}
+use Rattle.tables.specs.Rows.{Row}
 use Rattle.tables.specs.declared.sheet.NameTable.{NameTable}
 
 -- the characters of a name

@@ -1,6 +1,6 @@
 -- What the tables of a sheet tell. Assumes nothing.
 use Rattle.std.specs.Prelude.{List, take}
-use Rattle.tables.specs.declared.row.Row.{Row}
+use Rattle.tables.specs.Rows.{Row}
 use Rattle.tables.specs.declared.sheet.Counts.{Counts}
 use Rattle.tables.specs.declared.sheet.NameTable.{NameTable}
 use Rattle.tables.specs.declared.sheet.Sheet.{Sheet}

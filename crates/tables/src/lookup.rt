@@ -1,6 +1,6 @@
 // Looking up names and labels by their characters.
 ghost use Rattle.std.specs.Prelude.{◌≡◌, Bool};
-ghost use Rattle.tables.specs.declared.row.Row.{Row};
+ghost use Rattle.tables.specs.Rows.{Row};
 ghost use Rattle.tables.specs.Lookups.{spelled, names_in, name_number, label_spelled, label_number, label_place, First};
 
 use crate::name::Name;

@@ -65,13 +65,16 @@ pub struct RightSide {
     pub count: usize,
 }
 
-// A statement. A statement without pattern has none of its items; one without `=` has no right side.
+// A statement, with its label as L. A statement without pattern has none of its items; one without `=` has no right side.
 #[derive(Clone, Copy)]
-pub struct Row {
-    pub label: Option<Name>,
+pub struct RowOf<L> {
+    pub label: Option<L>,
     pub reference: Reference,
     pub pattern: Pattern,
     pub right_side: Option<RightSide>,
     pub on_success: Option<Target>,
     pub on_failure: Option<Target>,
 }
+
+// A statement that keeps the characters of its label.
+pub type Row = RowOf<Name>;

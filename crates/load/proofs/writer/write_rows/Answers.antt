@@ -1,5 +1,5 @@
 use Rattle.std.proofs.Common.{◌-◌, List, map, length, take, drop, sym, ap, ◌∙◌, arith}
-use Rattle.tables.specs.declared.row.Row.{Row}
+use Rattle.tables.specs.Rows.{Row}
 use Rattle.sheets.specs.Parts.{part_of}
 use Rattle.load.specs.Rows.{has_row}
 use Rattle.load.proofs.RowPuts.{line_size, at_most_one, row_room, count_on, put_on, put, put_front_over, put_none, rows_end}

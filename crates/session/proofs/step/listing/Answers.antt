@@ -1,5 +1,5 @@
 use Rattle.std.proofs.Common.{◌≡◌, ◌-◌, min, List, length, take, refl, ap, ◌∙◌, arith}
-use Rattle.tables.specs.declared.row.Row.{Row}
+use Rattle.tables.specs.Rows.{Row}
 use Rattle.tables.proofs.Lookups.{take_min}
 use Rattle.session.proofs.step.listing.Goals as goal
 

@@ -8,7 +8,7 @@ use Rattle.std.specs.Option.{option_map}
 use Rattle.std.specs.Str.{bytes_eq}
 use Rattle.tables.specs.Lookups.{label_spelled}
 use Rattle.tables.specs.declared.row.Next.TheVariants.{Statement, End}
-use Rattle.tables.specs.declared.row.Row.{Row}
+use Rattle.tables.specs.Rows.{Row}
 use Rattle.tables.proofs.Lookups.{first_here, first_later, first_nowhere, found}
 use Rattle.tables.proofs.lookup.find_label.Goals as goal
 

@@ -1,6 +1,6 @@
 use Rattle.std.proofs.Common.{◌≡◌, ◌+◌, drop}
 use Rattle.tables.specs.Lookups.{label_spelled, label_number, number_from}
-use Rattle.tables.specs.declared.row.Row.{Row}
+use Rattle.tables.specs.Rows.{Row}
 use Rattle.tables.proofs.lookup.find_label.Given as goal
 
 abbrev pub invariant-loop-i : goal.invariant-loop-i

@@ -5,7 +5,8 @@ ghost use Rattle.patterns.specs.Resolved.{name_element, item_element};
 ghost use Rattle.patterns.specs.Gathering.{Gathers};
 
 use crate::constant::gather_literal;
-use crate::reference::{contents, meant_by};
+use crate::reference::meant_by;
+use crate::strings::contents;
 use crate::variable::nearest_variable;
 use scan::element::{Element, Source, Variable};
 use stores::store::Store;

@@ -28,14 +28,14 @@ fn gather_items<K: Kind, S: Store<Symbol = K::Symbol>>(
 {
     let mut elements = [Element::Free(Variable::Arbitrary); 8];
     let mut used = 0;
-    for i in 0..items.len() {
+    for (i, item) in items.iter().enumerate() {
         let element = gather_item(
             kind,
             table,
             store,
             constants,
             &items[0..i],
-            items[i],
+            *item,
             area,
             used,
         )?;

@@ -18,11 +18,5 @@ fn is_variable(item: Item, name: usize) -> bool
 pub fn nearest_variable(items: &[Item], name: usize) -> Option<usize>
     ensures { result ≡ nearest name items.now }
 {
-    let mut found = None;
-    for i in 0..items.len() {
-        if is_variable(items[i], name) {
-            found = Some(i);
-        }
-    }
-    found
+    items.iter().rposition(|item| is_variable(*item, name))
 }

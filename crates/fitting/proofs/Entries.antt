@@ -14,19 +14,21 @@ use Rattle.sheets.specs.Items.{indirect, word, spelling, sort_of, sort_brings, b
 use Rattle.sheets.specs.Labels.{goes_to, role_goes, known, token_text, token_unknown, unknown_from}
 use Rattle.sheets.specs.Tallies.{or_else}
 use Rattle.changes.specs.Success.{In}
+use Rattle.tables.specs.declared.name.Name.{Name}
 use Rattle.tables.specs.declared.row.Operand.{Operand}
 use Rattle.tables.specs.declared.row.Reference.{Reference}
 use Rattle.tables.specs.declared.row.Target.{Target}
-use Rattle.load.specs.declared.entry.Entry.{Entry}
-use Rattle.load.specs.Entries.{name_number, reference_of, destination, target_of, entry_of, entries_from}
+use Rattle.rows.specs.declared.entry.Entry.{Entry}
+use Rattle.rows.specs.Entries.{name_number, reference_of, destination, target_of, entry_of, entries_from}
+use Rattle.rows.specs.Givens.{in_front}
+use Rattle.rows.specs.Labels.{name_label}
 use Rattle.checks.specs.Fits.{number_in}
-use Rattle.checks.specs.Sound.{Short, Sound-operand, Sound-item, Sound-target}
+use Rattle.checks.specs.Sound.{Given, Short, Sound-operand, Sound-item, Sound-target}
 use Rattle.fitting.proofs.Names.{Among, among_numbered, known_next}
 use Rattle.fitting.proofs.Tokens.{Good}
 
 -- what a token gives fits n names, s statements and c constants
-abbrev pub Sound-entry : ℕ → ℕ → ℕ → Entry → Type 0
-Sound-entry n s c Entry.Nothing = Unit {0}
+abbrev pub Sound-entry : ℕ → ℕ → ℕ → Entry Name → Type 0
 Sound-entry n s c (Entry.Label x) = Short x
 Sound-entry n s c (Entry.Reference x) = In n (number_in x)
 Sound-entry n s c (Entry.Element x) = Sound-item n c x
@@ -35,6 +37,11 @@ Sound-entry n s c (Entry.Operand x) = Sound-operand n c x
 Sound-entry n s c (Entry.Both g) = Sound-target n s g
 Sound-entry n s c (Entry.OnS g) = Sound-target n s g
 Sound-entry n s c (Entry.OnF g) = Sound-target n s g
+
+-- one sound thing more, if there is one
+pub front_sound : {B : Type 0} (P : B → Type 0) (o : Option B) (ys : List B) → Given P o → AllByRecursion P ys → AllByRecursion P (in_front o ys)
+front_sound P None ys p q = q
+front_sound P (Some y) ys p q = (p, q)
 
 -- a token whose label is known, where it goes to one
 pub told_known : (labels : List (List ℕ)) (line : List ℕ) (t : Token) → token_unknown labels line t ≡ None → goes_to line t ≡ true → known labels (token_text line t) ≡ true
@@ -82,8 +89,8 @@ module _ (names labels : List (List ℕ)) (line : List ℕ) where
         go true e = number_sound (brings (indirect line t) ∙ e)
         go false e = known_next labels (token_text line t) (told_known labels line t h.told (goes (indirect line t) ∙ ap not e))
 
-  module _ (constants : ℕ) (o : Operand) (literal : Sound-operand (length names) constants o) where
-    entry_sound : (r : Role) (k n : ℕ) → Settled (token r k n) → Sound-entry (length names) (length labels) constants (entry_of names labels line (token r k n) o)
+  module _ (from constants : ℕ) (o : Operand) (literal : Sound-operand (length names) constants o) where
+    entry_sound : (r : Role) (k n : ℕ) → Settled (token r k n) → Given (Sound-entry (length names) (length labels) constants) (entry_of name_label names labels from line (token r k n) o)
     entry_sound Role.Between k n h = tt
     entry_sound Role.Label k n h = omega arith
     entry_sound Role.Start k n h = tt
@@ -108,14 +115,14 @@ module _ (names labels : List (List ℕ)) (line : List ℕ) where
       let p = or_else_none (token_unknown labels line t) (unknown_from labels line ts) u in
       (record { good = g.0; named = n.0; told = p.0 }, all_settled ts g.1 n.1 p.1)
 
-  module _ {X : Type 0} (meant : List ℕ → Option X) (wide constants : ℕ) where
+  module _ {X : Type 0} (meant : List ℕ → Option X) (wide from constants : ℕ) where
     pub entries_sound : (at : ℕ) (ts : List Token) → AllByRecursion Settled ts → at + length (flat_map (token_symbols meant wide line) ts) ≤ constants
-        → AllByRecursion (Sound-entry (length names) (length labels) constants) (entries_from meant wide names labels line at ts)
+        → AllByRecursion (Sound-entry (length names) (length labels) constants) (entries_from name_label names labels from line meant wide at ts)
     unfolding entries_from
     entries_sound at [] h l = tt
     entries_sound at (t ∷ ts) h l =
         let a = length-append (token_symbols meant wide line t) (flat_map (token_symbols meant wide line) ts) in
-        let o : ℕ = at + length (token_symbols meant wide line t) in (
-          entry_sound constants (Operand.Literal at o) (omega arith, omega (arith, a)) t.role t.start t.size h.0,
-          entries_sound o ts h.1 (omega (arith, a)),
-        )
+        let o : ℕ = at + length (token_symbols meant wide line t) in
+        front_sound (Sound-entry (length names) (length labels) constants) (entry_of name_label names labels from line t (Operand.Literal at o)) _
+        (entry_sound from constants (Operand.Literal at o) (omega arith, omega (arith, a)) t.role t.start t.size h.0)
+        (entries_sound o ts h.1 (omega (arith, a)))

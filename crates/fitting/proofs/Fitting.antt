@@ -20,10 +20,12 @@ use Rattle.tables.specs.Tables.{counts as Counts-of}
 use Rattle.tables.specs.Rows.{Row}
 use Rattle.tables.specs.declared.sheet.Counts.{Counts}
 use Rattle.tables.specs.declared.sheet.Sheet.{Sheet}
-use Rattle.load.specs.Fills.{filled}
-use Rattle.load.specs.Names.{name_of, name_table}
+use Rattle.rows.specs.Fills.{filled}
+use Rattle.rows.specs.Labels.{name_label}
+use Rattle.rows.specs.Names.{name_of}
+use Rattle.load.specs.Names.{name_table}
 use Rattle.load.specs.Tables.{sheet_rows, sheet_of}
-use Rattle.load.proofs.RowCounts.{accepted_rows}
+use Rattle.rows.proofs.RowCounts.{accepted_rows}
 use Rattle.checks.specs.Fits.{every, name_fits, next_fits, row_fits, within_limits, same_counts, sheet_fits, admits}
 use Rattle.checks.specs.Sound.{Short, Sound-next, Sound-row}
 use Rattle.checks.proofs.Sound.{decides_every, decides_short, decides_next, decides_row}
@@ -79,7 +81,7 @@ module _ {X : Type 0} (meant : List ℕ → Option X) (wide : ℕ) (text : List 
   few_symbols = let a = accepted_symbols meant wide text accepted in let b = held.symbols in omega (arith, a, b)
 
   rows_counted : length written ≡ n.statements
-  rows_counted = accepted_rows meant wide text accepted n.names n.labels
+  rows_counted = accepted_rows name_label meant wide text accepted n.names n.labels
 
   names_counted : length n.names ≡ min (length n.names) 64
   names_counted = let h = held.names in omega arith
@@ -88,7 +90,7 @@ module _ {X : Type 0} (meant : List ℕ → Option X) (wide : ℕ) (text : List 
   rows_fit =
       subst (λ (k : ℕ). AllByRecursion (Sound-row k sheet.statements sheet.constants) written) names_counted
       (subst (λ (k : ℕ). AllByRecursion (Sound-row (length n.names) k sheet.constants) written) held.labels
-      (rows_sound meant wide n.names n.labels sheet.constants 1 1 0 nothing (lines_of text) (accepted_lines reads text accepted) (told reads text accepted) (λ x h. h) (omega arith)))
+      (rows_sound meant wide n.names n.labels sheet.constants 1 1 0 0 nothing (lines_of text) (accepted_lines reads text accepted) (told reads text accepted) (λ x h. h) (omega arith)))
 
   taken_fit : AllByRecursion (Sound-row sheet.names.count sheet.statements sheet.constants) (take sheet.statements (over written rows))
   taken_fit =

@@ -12,7 +12,7 @@ use Rattle.sheets.specs.Tallies.{Count, absent, with_token, count_from}
 use Rattle.sheets.proofs.Searches.{first_place}
 use Rattle.changes.specs.Success.{In}
 use Rattle.tables.specs.declared.row.Next.{Next}
-use Rattle.load.specs.Entries.{numbered, destination}
+use Rattle.rows.specs.Entries.{numbered, destination}
 use Rattle.checks.specs.Sound.{Sound-next}
 
 -- a word is one of some words

@@ -23,21 +23,23 @@ use Rattle.sheets.specs.Sheets.{lines_refusal, brought_by}
 use Rattle.sheets.specs.Tallies.{counts, count_from}
 use Rattle.sheets.proofs.Accepted.{refused_none}
 use Rattle.changes.specs.Success.{In, Numbered}
+use Rattle.tables.specs.declared.name.Name.{Name}
 use Rattle.tables.specs.declared.row.Item.{Item}
 use Rattle.tables.specs.declared.row.Item.TheVariants.{Operand as operand, Variable as variable}
 use Rattle.tables.specs.declared.row.Next.{Next}
 use Rattle.tables.specs.declared.row.Operand.{Operand}
 use Rattle.tables.specs.declared.row.Reference.{Reference}
 use Rattle.tables.specs.Rows.{Row}
-use Rattle.load.specs.declared.entry.Entry.{Entry}
-use Rattle.load.specs.Entries.{entry_of, entries_from}
-use Rattle.load.specs.Fills.{filled}
-use Rattle.load.specs.Givens.{in_front, or, else, given, last_given}
-use Rattle.load.specs.Rows.{label_in, reference_in, element_in, operand_in, success_in, failure_in, replaces, null, right_side_of, row_of, has_row, led, line_row, rows_from}
+use Rattle.rows.specs.declared.entry.Entry.{Entry}
+use Rattle.rows.specs.Entries.{reference_of, entry_of, entries_from}
+use Rattle.rows.specs.Fills.{filled}
+use Rattle.rows.specs.Givens.{in_front, or, else, given, last_given}
+use Rattle.rows.specs.Labels.{name_label}
+use Rattle.rows.specs.Rows.{label_in, reference_in, element_in, operand_in, success_in, failure_in, replaces, null, right_side_of, row_of, has_row, led, line_row, rows_from}
 use Rattle.load.specs.Starts.{token_start, line_start, text_start}
 use Rattle.checks.specs.Fits.{number_in}
 use Rattle.checks.specs.Sound.{Given, Short, Sound-operand, Sound-item, Sound-side, Sound-next, Sound-target, Sound-row}
-use Rattle.fitting.proofs.Entries.{Sound-entry, told_known, or_else_none, all_settled, entries_sound}
+use Rattle.fitting.proofs.Entries.{Sound-entry, front_sound, told_known, or_else_none, all_settled, entries_sound}
 use Rattle.fitting.proofs.Lines.{clean, lines_keep}
 use Rattle.fitting.proofs.Names.{Among, known_next, tokens_bring}
 use Rattle.fitting.proofs.References.{refers, referred}
@@ -57,11 +59,7 @@ module _ {A B : Type 0} (f : A → Option B) (P : A → Type 0) (Q : B → Type 
   given_sound : (xs : List A) → AllByRecursion P xs → AllByRecursion Q (given f xs)
   unfolding given
   given_sound [] h = tt
-  given_sound (x ∷ xs) h = go (f x) (each x h.0) (given_sound xs h.1)
-    where
-      go : (o : Option B) → Given Q o → AllByRecursion Q (given f xs) → AllByRecursion Q (in_front o (given f xs))
-      go None p q = q
-      go (Some y) p q = (p, q)
+  given_sound (x ∷ xs) h = front_sound Q (f x) (given f xs) (each x h.0) (given_sound xs h.1)
 
 all_same : {A : Type 0} (Q : A → Type 0) (n : ℕ) (x : A) → Q x → AllByRecursion Q (replicate n x)
 all_same Q zero x h = tt
@@ -86,11 +84,10 @@ item_numbered n c (operand o) h = tt
 item_numbered n c (variable v) h = h.0
 
 module _ (n s c : ℕ) where
-  abbrev Entries : List Entry → Type 0
+  abbrev Entries : List (Entry Name) → Type 0
   Entries es = AllByRecursion (Sound-entry n s c) es
 
-  label_sound : (e : Entry) → Sound-entry n s c e → Given Short (label_in e)
-  label_sound Entry.Nothing h = tt
+  label_sound : (e : Entry Name) → Sound-entry n s c e → Given Short (label_in e)
   label_sound (Entry.Label x) h = h
   label_sound (Entry.Reference x) h = tt
   label_sound (Entry.Element x) h = tt
@@ -100,8 +97,7 @@ module _ (n s c : ℕ) where
   label_sound (Entry.OnS g) h = tt
   label_sound (Entry.OnF g) h = tt
 
-  reference_sound : (e : Entry) → Sound-entry n s c e → Given (λ r. In n (number_in r)) (reference_in e)
-  reference_sound Entry.Nothing h = tt
+  reference_sound : (e : Entry Name) → Sound-entry n s c e → Given (λ r. In n (number_in r)) (reference_in e)
   reference_sound (Entry.Label x) h = tt
   reference_sound (Entry.Reference x) h = h
   reference_sound (Entry.Element x) h = tt
@@ -111,8 +107,7 @@ module _ (n s c : ℕ) where
   reference_sound (Entry.OnS g) h = tt
   reference_sound (Entry.OnF g) h = tt
 
-  element_sound : (e : Entry) → Sound-entry n s c e → Given (Sound-item n c) (element_in e)
-  element_sound Entry.Nothing h = tt
+  element_sound : (e : Entry Name) → Sound-entry n s c e → Given (Sound-item n c) (element_in e)
   element_sound (Entry.Label x) h = tt
   element_sound (Entry.Reference x) h = tt
   element_sound (Entry.Element x) h = h
@@ -122,8 +117,7 @@ module _ (n s c : ℕ) where
   element_sound (Entry.OnS g) h = tt
   element_sound (Entry.OnF g) h = tt
 
-  operand_sound : (e : Entry) → Sound-entry n s c e → Given (Sound-operand n c) (operand_in e)
-  operand_sound Entry.Nothing h = tt
+  operand_sound : (e : Entry Name) → Sound-entry n s c e → Given (Sound-operand n c) (operand_in e)
   operand_sound (Entry.Label x) h = tt
   operand_sound (Entry.Reference x) h = tt
   operand_sound (Entry.Element x) h = tt
@@ -133,8 +127,7 @@ module _ (n s c : ℕ) where
   operand_sound (Entry.OnS g) h = tt
   operand_sound (Entry.OnF g) h = tt
 
-  success_sound : (e : Entry) → Sound-entry n s c e → Given (Sound-target n s) (success_in e)
-  success_sound Entry.Nothing h = tt
+  success_sound : (e : Entry Name) → Sound-entry n s c e → Given (Sound-target n s) (success_in e)
   success_sound (Entry.Label x) h = tt
   success_sound (Entry.Reference x) h = tt
   success_sound (Entry.Element x) h = tt
@@ -144,8 +137,7 @@ module _ (n s c : ℕ) where
   success_sound (Entry.OnS g) h = h
   success_sound (Entry.OnF g) h = tt
 
-  failure_sound : (e : Entry) → Sound-entry n s c e → Given (Sound-target n s) (failure_in e)
-  failure_sound Entry.Nothing h = tt
+  failure_sound : (e : Entry Name) → Sound-entry n s c e → Given (Sound-target n s) (failure_in e)
   failure_sound (Entry.Label x) h = tt
   failure_sound (Entry.Reference x) h = tt
   failure_sound (Entry.Element x) h = tt
@@ -162,7 +154,7 @@ module _ (n s c : ℕ) where
   side_sound false xs h = tt
   side_sound true xs h = (omega arith, All-take (Sound-operand n c) (min (length xs) 8) (filled 8 null xs) (filled_sound (Sound-operand n c) 8 null xs no_literal h))
 
-  row_sound : (es : List Entry) → Entries es → there (last_given reference_in es) ≡ true → Sound-row n s c (row_of es)
+  row_sound : (es : List (Entry Name)) → Entries es → there (last_given reference_in es) ≡ true → Sound-row n s c (row_of es)
   row_sound es h r =
       let xs : List Item = given element_in es in
       let items = All-take (Sound-item n c) (min (length xs) 8) (filled 8 (Item.Operand null) xs)
@@ -186,38 +178,48 @@ there_second : {B : Type 0} (a b : Option B) → there b ≡ true → there (or 
 there_second None b h = h
 there_second (Some x) b h = refl
 
+-- a string reference is given by what stands behind, or by the first
+there_behind : (o : Option (Entry Name)) (es : List (Entry Name)) → there (last_given reference_in es) ≡ true → there (last_given reference_in (in_front o es)) ≡ true
+unfolding last_given
+there_behind None es h = h
+there_behind (Some e) es h = there_first (last_given reference_in es) (reference_in e) h
+
+there_front : (r : Reference) (es : List (Entry Name)) → there (last_given reference_in (in_front (Some (Entry.Reference r)) es)) ≡ true
+unfolding last_given
+there_front r es = there_second (last_given reference_in es) (Some r) refl
+
 module _ {X : Type 0} (meant : List ℕ → Option X) (wide : ℕ) (names labels : List (List ℕ)) where
   -- the string reference that a token is, is given
-  reference_there : (line : List ℕ) (at : ℕ) (ts : List Token) → refers ts ≡ true → there (last_given reference_in (entries_from meant wide names labels line at ts)) ≡ true
-  unfolding refers entries_from last_given
-  reference_there line at [] h = absurd (false≢true h)
-  reference_there line at (t ∷ ts) h = ⊎_elim here (λ k. there_first (last_given reference_in rest) (reference_in one) (reference_there line next ts k)) (or_cases (same_role t.role Role.Reference) (refers ts) h)
+  reference_there : (from : ℕ) (line : List ℕ) (at : ℕ) (ts : List Token) → refers ts ≡ true → there (last_given reference_in (entries_from name_label names labels from line meant wide at ts)) ≡ true
+  unfolding refers entries_from
+  reference_there from line at [] h = absurd (false≢true h)
+  reference_there from line at (t ∷ ts) h = ⊎_elim here (λ k. there_behind one rest (reference_there from line next ts k)) (or_cases (same_role t.role Role.Reference) (refers ts) h)
     where
       next : ℕ
       next = at + length (token_symbols meant wide line t)
 
-      rest : List Entry
-      rest = entries_from meant wide names labels line (at + length (token_symbols meant wide line t)) ts
+      rest : List (Entry Name)
+      rest = entries_from name_label names labels from line meant wide (at + length (token_symbols meant wide line t)) ts
 
-      one : Entry
-      one = entry_of names labels line t (Operand.Literal at (at + length (token_symbols meant wide line t)))
+      one : Option (Entry Name)
+      one = entry_of name_label names labels from line t (Operand.Literal at (at + length (token_symbols meant wide line t)))
 
-      here : same_role t.role Role.Reference ≡ true → there (or (last_given reference_in rest) (reference_in one)) ≡ true
+      here : same_role t.role Role.Reference ≡ true → there (last_given reference_in (in_front one rest)) ≡ true
       here e =
-          there_second (last_given reference_in rest) (reference_in one)
-          (subst (λ (r : Role). there (reference_in (entry_of names labels line (token r t.start t.size) (Operand.Literal at next))) ≡ true) (sym (same_roles t.role Role.Reference e)) refl)
+          subst (λ (r : Role). there (last_given reference_in (in_front (entry_of name_label names labels from line (token r t.start t.size) (Operand.Literal at next)) rest)) ≡ true)
+          (sym (same_roles t.role Role.Reference e)) (there_front (reference_of names line (token Role.Reference t.start t.size)) rest)
 
   module _ (constants : ℕ) where
     abbrev Sound : Row → Type 0
     Sound = Sound-row (length names) (length labels) constants
 
-    line_sound : (at : ℕ) (l : List ℕ) → lands beginning l ≡ true → labelled_end l ≡ false
+    line_sound : (from at : ℕ) (l : List ℕ) → lands beginning l ≡ true → labelled_end l ≡ false
         → AllByRecursion (λ t. brings_name l t ≡ true → Among (spelling l t) names) (tokens l) → unknown_from labels l (tokens l) ≡ None
-        → at + length (line_symbols meant wide l) ≤ constants → Sound (line_row meant wide names labels at l)
-    line_sound at l stands other named told room =
-        row_sound (length names) (length labels) constants (entries_from meant wide names labels l at (tokens l))
-        (entries_sound names labels l meant wide constants at (tokens l) (all_settled names labels l (tokens l) (good_tokens l stands) named told) room)
-        (reference_there l at (tokens l) (referred l stands other))
+        → at + length (line_symbols meant wide l) ≤ constants → Sound (line_row name_label meant wide names labels from at l)
+    line_sound from at l stands other named told room =
+        row_sound (length names) (length labels) constants (entries_from name_label names labels from l meant wide at (tokens l))
+        (entries_sound names labels l meant wide from constants at (tokens l) (all_settled names labels l (tokens l) (good_tokens l stands) named told) room)
+        (reference_there from l at (tokens l) (referred l stands other))
 
     abbrev reads : List ℕ → Result ℕ TextFault
     reads = counts meant wide
@@ -234,29 +236,29 @@ module _ {X : Type 0} (meant : List ℕ → Option X) (wide : ℕ) (names labels
         on true e x h = absurd (false≢true (sym e))
         on false e x h = h
 
-    pub rows_sound : (k j at : ℕ) (n : Brought) (ls : List (List ℕ)) → lines_refusal reads k n ls ≡ None → lines_unknown labels j ls ≡ None
+    pub rows_sound : (k j from at : ℕ) (n : Brought) (ls : List (List ℕ)) → lines_refusal reads k n ls ≡ None → lines_unknown labels j ls ≡ None
         → ((x : List ℕ) → Among x (brought_by reads n ls).names → Among x names)
-        → at + length (flat_map (line_symbols meant wide) ls) ≤ constants → AllByRecursion Sound (rows_from meant wide names labels at ls)
+        → at + length (flat_map (line_symbols meant wide) ls) ≤ constants → AllByRecursion Sound (rows_from name_label meant wide names labels from at ls)
     unfolding lines_refusal lines_unknown brought_by rows_from
-    rows_sound k j at n [] e u all room = tt
-    rows_sound k j at n (l ∷ ls) e u all room =
+    rows_sound k j from at n [] e u all room = tt
+    rows_sound k j from at n (l ∷ ls) e u all room =
         let p = refused_none (first (line_faults reads n l)) k (lines_refusal reads (k + 1) (with_line reads n l) ls) e in
         let q = refused_none (unknown_from labels l (tokens l)) j (lines_unknown labels (j + 1) ls) u in
         let a = length-append (line_symbols meant wide l) (flat_map (line_symbols meant wide) ls) in
         go (has_row l) refl p.0 q.0 (omega (arith, a))
-        (rows_sound (k + 1) (j + 1) (at + length (line_symbols meant wide l)) (with_line reads n l) ls p.1 q.1 all (omega (arith, a)))
+        (rows_sound (k + 1) (j + 1) ((from + length l) + 1) (at + length (line_symbols meant wide l)) (with_line reads n l) ls p.1 q.1 all (omega (arith, a)))
       where
         rest : List Row
-        rest = rows_from meant wide names labels (at + length (line_symbols meant wide l)) ls
+        rest = rows_from name_label meant wide names labels ((from + length l) + 1) (at + length (line_symbols meant wide l)) ls
 
         go : (b : Bool) → has_row l ≡ b → first (line_faults reads n l) ≡ None → unknown_from labels l (tokens l) ≡ None
-            → at + length (line_symbols meant wide l) ≤ constants → AllByRecursion Sound rest → AllByRecursion Sound (led b (line_row meant wide names labels at l) rest)
+            → at + length (line_symbols meant wide l) ≤ constants → AllByRecursion Sound rest → AllByRecursion Sound (led b (line_row name_label meant wide names labels from at l) rest)
         go false r f t i h = h
         go true r f t i h =
             let w = and_parts (not (idle l)) (not (labelled_end l)) r in
             let busy = not-true (idle l) w.0 in
             let c = clean reads n l f busy in
-            (line_sound at l c.stands (not-true (labelled_end l) w.1) (line_named n l ls (or_from (idle l) n.ended busy c.before_end) all) t i, h)
+            (line_sound from at l c.stands (not-true (labelled_end l) w.1) (line_named n l ls (or_from (idle l) n.ended busy c.before_end) all) t i, h)
 
 -- where a sheet starts
 module _ (labels : List (List ℕ)) where

@@ -4,7 +4,7 @@ use Rattle.std.proofs.lemmas.Bool.{lt-ltb, le-ltb}
 use Rattle.lines.specs.declared.reading.VariableReading.{VariableReading}
 use Rattle.lines.specs.declared.reading.Reading.{Reading}
 use Rattle.lines.proofs.Walk.{lands}
-use Rattle.load.specs.Entries.{digit_of, decimal}
+use Rattle.rows.specs.Entries.{digit_of, decimal}
 use Rattle.fitting.proofs.Spans.{head, tail, number, span_limited}
 
 -- from place k on a line has the character c and then s

@@ -23,7 +23,7 @@ use Rattle.lines.proofs.Runs.{same_roles}
 use Rattle.lines.proofs.Walk.{lands, onto}
 use Rattle.sheets.specs.declared.part.Part.{Part}
 use Rattle.sheets.specs.Items.{sort_of, indirect, word, sort_brings}
-use Rattle.load.specs.Entries.{slash_at, decimal, form_at}
+use Rattle.rows.specs.Entries.{slash_at, decimal, form_at}
 use Rattle.tables.specs.declared.row.Form.{Form}
 use Rattle.checks.specs.Sound.{Sound-form}
 use Rattle.fitting.proofs.Suffixes.{Here, here, past, decimal_limited}

@@ -1,8 +1,3 @@
-pub mod Drafts
-pub mod Fills
 pub mod Loads
 pub mod NameLoops
-pub mod RowCounts
-pub mod RowLoops
-pub mod RowPuts
 pub mod StartLoops

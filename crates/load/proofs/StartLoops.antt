@@ -7,7 +7,7 @@ use Rattle.lines.specs.Tokens.{tokens_from, Took}
 use Rattle.sheets.specs.Sheets.{lines_of, line_length}
 use Rattle.sheets.proofs.Cuts.{lines_at, lines_end}
 use Rattle.tables.specs.declared.row.Next.{Next}
-use Rattle.load.specs.Givens.{or, else, last_given}
+use Rattle.rows.specs.Givens.{or, else, last_given}
 use Rattle.load.specs.Starts.{token_start, line_start}
 
 else_or : {A : Type 0} (d : A) (a b : Option A) → else d (or a b) ≡ else (else d b) a

@@ -6,8 +6,8 @@ use Rattle.lines.specs.Tokens.{tokens}
 use Rattle.sheets.specs.Labels.{token_text}
 use Rattle.sheets.specs.Sheets.{lines_of}
 use Rattle.tables.specs.declared.row.Next.{Next}
-use Rattle.load.specs.Entries.{destination}
-use Rattle.load.specs.Givens.{else, last_given}
+use Rattle.rows.specs.Entries.{destination}
+use Rattle.rows.specs.Givens.{else, last_given}
 
 abbrev role_start : Role → Next → Option Next
 role_start Role.Between n = None

@@ -9,8 +9,9 @@ use Rattle.sheets.specs.Sheets.{lines_of}
 use Rattle.sheets.specs.Tallies.{counts}
 use Rattle.tables.specs.Rows.{Row}
 use Rattle.tables.specs.declared.sheet.Sheet.{Sheet}
+use Rattle.rows.specs.Labels.{name_label}
+use Rattle.rows.specs.Rows.{rows_from}
 use Rattle.load.specs.Names.{name_table}
-use Rattle.load.specs.Rows.{rows_from}
 use Rattle.load.specs.Starts.{text_start}
 
 module _ {X : Type 0} (meant : List ℕ → Option X) (wide : ℕ) where
@@ -25,7 +26,7 @@ module _ {X : Type 0} (meant : List ℕ → Option X) (wide : ℕ) where
 
   -- a row for each statement, with the numbers that its names and labels have in the whole sheet
   abbrev pub sheet_rows : List ℕ → List Row
-  sheet_rows text = rows_from meant wide (sheet_brought text).names (sheet_brought text).labels 0 (lines_of text)
+  sheet_rows text = rows_from name_label meant wide (sheet_brought text).names (sheet_brought text).labels 0 0 (lines_of text)
 
   -- how many statements and constant symbols a sheet has, its names, and where it starts
   abbrev pub sheet_of : List ℕ → Sheet

@@ -9,9 +9,6 @@ pub mod LineLaws
 pub mod LineLoops
 pub mod Literals
 pub mod Refusals
-pub mod RowCounts
-pub mod RowLoops
-pub mod RowPuts
 pub mod Searches
 pub mod TokenLaws
 pub mod TokenLoops

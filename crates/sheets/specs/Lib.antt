@@ -1,11 +1,8 @@
 pub mod Causes
-pub mod Entries
 pub mod Faults
 pub mod Items
 pub mod Labels
 pub mod LineFaults
 pub mod Parts
-pub mod Rows
 pub mod Sheets
-pub mod Table
 pub mod Tallies

@@ -1,0 +1,9 @@
+pub mod Entries
+pub mod Filling
+pub mod Fills
+pub mod Givens
+pub mod Labels
+pub mod Names
+pub mod Namings
+pub mod Rows
+pub mod Table

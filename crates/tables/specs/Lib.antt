@@ -1,3 +1,5 @@
 pub mod Limits
 pub mod Lookups
+pub mod Rows
 pub mod Tables
+pub mod Words

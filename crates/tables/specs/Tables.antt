@@ -2,6 +2,7 @@
 use Rattle.std.specs.Prelude.{List, take}
 use Rattle.tables.specs.declared.row.Row.{Row}
 use Rattle.tables.specs.declared.sheet.Counts.{Counts}
+use Rattle.tables.specs.declared.listing.Listing.{Listing}
 use Rattle.tables.specs.declared.sheet.NameTable.{NameTable}
 use Rattle.tables.specs.declared.sheet.Sheet.{Sheet}
 use Rattle.tables.specs.declared.sheet.Tables.{Tables}
@@ -24,3 +25,7 @@ tabled lent =
       rows = take lent.sheet.now.statements lent.rows.now;
       constants = take lent.sheet.now.constants lent.constants.now;
     }
+
+-- what a listing tells
+abbrev pub listed : {K X : Type 0} → Listing K X → Tabled X
+listed listing = record { names = listing.names.now; rows = listing.rows.now; constants = listing.constants.now }

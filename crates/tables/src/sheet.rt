@@ -1,18 +1,29 @@
 // A sheet: how much of its tables it uses, its names, and where it starts.
 ghost use Rattle.std.specs.Prelude.{◌≡◌};
+ghost use Rattle.tables.specs.Lookups.{names_in};
 ghost use Rattle.tables.specs.Tables.{counts};
 
 use crate::name::Name;
+use crate::places::first_places;
 use crate::row::{Next, Row};
 
 // The names of a sheet, in the first places, in the order of their numbers.
-#[derive(Clone, Copy)]
+#[derive(Clone, Copy, PartialEq, Eq, Debug)]
 pub struct NameTable {
     pub names: [Name; 64],
     pub count: usize,
 }
 
-#[derive(Clone, Copy)]
+impl NameTable {
+    // The names of a table.
+    pub fn names(&self) -> &[Name]
+        ensures { result.now ≡ names_in self.now }
+    {
+        first_places(&self.names, self.count)
+    }
+}
+
+#[derive(Clone, Copy, PartialEq, Eq, Debug)]
 pub struct Sheet {
     pub statements: usize,
     pub constants: usize,
@@ -21,7 +32,7 @@ pub struct Sheet {
 }
 
 // How many statements, constant symbols and names a sheet has.
-#[derive(Clone, Copy)]
+#[derive(Clone, Copy, PartialEq, Eq, Debug)]
 pub struct Counts {
     pub statements: usize,
     pub constants: usize,

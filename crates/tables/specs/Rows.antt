@@ -1,0 +1,20 @@
+-- What the parts of a row tell. Assumes nothing.
+use Rattle.std.specs.Prelude.{ℕ, Bool, false, List, take, ◌==◌}
+use Rattle.tables.specs.declared.row.Item.{Item}
+use Rattle.tables.specs.declared.row.Item.TheVariants.{Operand as operand, Variable}
+use Rattle.tables.specs.declared.row.Operand.{Operand}
+use Rattle.tables.specs.declared.row.Pattern.{Pattern}
+use Rattle.tables.specs.declared.row.RightSide.{RightSide}
+
+-- the elements of a pattern
+abbrev pub items_in : Pattern → List Item
+items_in pattern = take pattern.count pattern.items
+
+-- the operands of a right side
+abbrev pub operands_in : RightSide → List Operand
+operands_in side = take side.count side.operands
+
+-- whether an element is a variable with the name of number k
+abbrev pub is_variable : ℕ → Item → Bool
+is_variable k (operand o) = false
+is_variable k (Variable v) = v.name == k

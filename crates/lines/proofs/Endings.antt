@@ -1,6 +1,7 @@
 -- END's line is the statement line that begins with `END` and a blank. Assumes nothing.
-use Rattle.std.proofs.Common.{◌≡◌, ℕ, ◌<◌, ◌≤◌, Bool, true, false, cond, ◌&&◌, List, [], ◌∷◌, map, length, get_or, sym, refl, ap, ◌∙◌, arith}
+use Rattle.std.proofs.Common.{◌≡◌, ℕ, Bool, true, false, cond, ◌&&◌, eqb, List, [], ◌∷◌, map, get_or, sym, refl, ap, ◌∙◌, arith}
 use Rattle.std.proofs.lemmas.Bool.Decides.{nat_tests}
+use Rattle.std.specs.List.{starts_with}
 use Rattle.lines.specs.declared.mark.Mark.{Mark}
 use Rattle.lines.specs.declared.mark.Mark.TheVariants.{Blank, LetterE, LetterN, LetterD, LetterS, LetterF, Letter, Zero, OneToThree, Four, FiveSix, SevenEight, Nine, Period, Quote, Dollar, Star, Slash, Open, Close, Equal, Other}
 use Rattle.lines.specs.Marks.{mark_of, same, num}
@@ -13,27 +14,26 @@ use Rattle.lines.proofs.Follows.{and_left, and_right}
 use Rattle.lines.proofs.Steps.{AllMarks, at}
 use Rattle.lines.proofs.Walk.{none_stays}
 
-and_false : (a : Bool) → (a && false) ≡ false
-and_false true = refl
-and_false false = refl
+-- the four marks stand for no other characters
+mark_e : (c : ℕ) → eqb 69 c ≡ same (mark_of c) LetterE
+mark_e c = grind (arith, nat_tests)
 
-pub four : (s : List ℕ) → 4 ≤ length s
-    → begins_end (map mark_of s) ≡ begins_end (mark_of (get_or s 0 0) ∷ mark_of (get_or s 1 0) ∷ mark_of (get_or s 2 0) ∷ mark_of (get_or s 3 0) ∷ [])
-four [] h = absurd (omega arith)
-four (a ∷ []) h = absurd (omega arith)
-four (a ∷ b ∷ []) h = absurd (omega arith)
-four (a ∷ b ∷ c ∷ []) h = absurd (omega arith)
-four (a ∷ b ∷ c ∷ d ∷ s) h = refl
+mark_n : (c : ℕ) → eqb 78 c ≡ same (mark_of c) LetterN
+mark_n c = grind (arith, nat_tests)
 
-pub under_four : (s : List ℕ) → length s < 4 → begins_end (map mark_of s) ≡ false
-under_four [] h = refl
-under_four (a ∷ []) h = and_false (same (mark_of a) LetterE)
-under_four (a ∷ b ∷ []) h = ap (λ (x : Bool). same (mark_of a) LetterE && x) (and_false (same (mark_of b) LetterN)) ∙ and_false (same (mark_of a) LetterE)
-under_four (a ∷ b ∷ c ∷ []) h =
-    ap (λ (x : Bool). same (mark_of a) LetterE && (same (mark_of b) LetterN && x)) (and_false (same (mark_of c) LetterD))
-    ∙ ap (λ (x : Bool). same (mark_of a) LetterE && x) (and_false (same (mark_of b) LetterN))
-    ∙ and_false (same (mark_of a) LetterE)
-under_four (a ∷ b ∷ c ∷ d ∷ s) h = absurd (omega arith)
+mark_d : (c : ℕ) → eqb 68 c ≡ same (mark_of c) LetterD
+mark_d c = grind (arith, nat_tests)
+
+mark_blank : (c : ℕ) → eqb 32 c ≡ same (mark_of c) Blank
+mark_blank c = grind (arith, nat_tests)
+
+-- the characters `END` and a blank come first, just if their marks do
+pub starts_end : (s : List ℕ) → starts_with eqb s (69 ∷ 78 ∷ 68 ∷ 32 ∷ []) ≡ begins_end (map mark_of s)
+starts_end [] = refl
+starts_end (a ∷ []) = rw (mark_e a) refl
+starts_end (a ∷ b ∷ []) = rw (mark_e a, mark_n b) refl
+starts_end (a ∷ b ∷ c ∷ []) = rw (mark_e a, mark_n b, mark_d c) refl
+starts_end (a ∷ b ∷ c ∷ d ∷ s) = rw (mark_e a, mark_n b, mark_d c, mark_blank d) refl
 
 -- what may follow in a line of either form and in END's line, once some marks are read
 abbrev lines : List Mark → Lang Mark

@@ -1,10 +1,11 @@
 pub mod Colours
+pub mod Cuts
 pub mod Endings
 pub mod Follows
 pub mod Forms
-pub mod Idles
 pub mod NameForms
 pub mod Runs
+pub mod Same
 pub mod Samples
 pub mod Steps
 pub mod Tints

@@ -8,3 +8,5 @@ pub mod NameForm
 pub mod Next
 pub mod Roles
 pub mod Tokens
+pub mod Texts
+pub mod Walks

@@ -1,5 +1,6 @@
 -- Statement lines, idle lines, and the longest beginning of a line that some statement line has. Assumes nothing.
-use Rattle.std.specs.Prelude.{◌≡◌, ℕ, ◌≤◌, Bool, true, false, cond, ◌&&◌, ◌||◌, ◌↔◌, List, [], ◌∷◌, ◌++◌, map, length, take, ◌==◌}
+use Rattle.std.specs.Prelude.{◌≡◌, ℕ, ◌≤◌, Bool, true, false, cond, ◌||◌, ◌↔◌, List, [], ◌∷◌, ◌++◌, map, length, take, ◌==◌}
+use Rattle.std.specs.List.{list_all}
 use Rattle.lines.specs.declared.role.Role.{Role}
 use Rattle.lines.specs.declared.line.Form.{Form}
 use Rattle.lines.specs.Marks.{mark_of}
@@ -31,8 +32,7 @@ Longest s n = (k : ℕ) → k ≤ length s → BeginsLine (take k s) ↔ (k ≤ 
 
 -- a line of blanks or none
 abbrev pub all_blank : List ℕ → Bool
-all_blank [] = true
-all_blank (c ∷ s) = c == 32 && all_blank s
+all_blank s = list_all (λ c. c == 32) s
 
 -- a line with `*` in column 1
 abbrev pub comment : List ℕ → Bool

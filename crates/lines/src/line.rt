@@ -5,11 +5,11 @@ ghost use Rattle.lines.specs.Marks.{mark_of};
 ghost use Rattle.lines.specs.Ends.{begins_end};
 ghost use Rattle.lines.specs.NameForm.{NameForm};
 
-use crate::mark::{Mark, mark_of};
+use crate::mark::Mark;
 use crate::reading::{LabelReading, Reading};
 
 // An idle line, a statement, END's line, or a line that is none of these.
-#[derive(Clone, Copy, Drop)]
+#[derive(Clone, Copy, Debug, PartialEq, Eq, Drop)]
 pub enum Form {
     Idle,
     Statement,
@@ -17,7 +17,7 @@ pub enum Form {
     Broken,
 }
 
-#[derive(Clone, Copy, Drop)]
+#[derive(Clone, Copy, Debug, PartialEq, Eq, Drop)]
 pub struct LineRead {
     pub reach: usize,
     pub form: Form,
@@ -26,18 +26,13 @@ pub struct LineRead {
 fn is_comment(line: &[u8]) -> bool
     ensures { result ≡ comment line.now }
 {
-    line.len() > 0 && line[0] == b'*'
+    line.starts_with(b"*")
 }
 
 fn is_blank(line: &[u8]) -> bool
     ensures { result ≡ all_blank line.now }
 {
-    for c in line {
-        if *c != b' ' {
-            return false;
-        }
-    }
-    true
+    line.iter().all(|c| *c == b' ')
 }
 
 pub fn is_idle(line: &[u8]) -> bool
@@ -46,29 +41,11 @@ pub fn is_idle(line: &[u8]) -> bool
     is_comment(line) || is_blank(line)
 }
 
-// Whether four marks are those of `END` and a blank.
-fn spells_end(first: Mark, second: Mark, third: Mark, fourth: Mark) -> bool
-    ensures { result ≡ begins_end (first ∷ second ∷ third ∷ fourth ∷ []) }
-{
-    first.is(Mark::LetterE)
-        && second.is(Mark::LetterN)
-        && third.is(Mark::LetterD)
-        && fourth.is(Mark::Blank)
-}
-
 // Whether the line begins as only END's line may.
 fn begins_end(line: &[u8]) -> bool
     ensures { result ≡ begins_end (map mark_of line.now) }
 {
-    if line.len() < 4 {
-        return false;
-    }
-    spells_end(
-        mark_of(line[0]),
-        mark_of(line[1]),
-        mark_of(line[2]),
-        mark_of(line[3]),
-    )
+    line.starts_with(b"END ")
 }
 
 // How far a line goes as a statement line does, and whether it is one.
@@ -84,13 +61,13 @@ fn walk(line: &[u8]) -> Walked
 {
     let mut reading = Reading::Label(LabelReading::Begin);
     for (i, c) in line.iter().enumerate() {
-        match reading.next(mark_of(*c)) {
-            Some(then) => reading = then,
-            None => return Walked {
+        let Some(then) = reading.next(Mark::from(*c)) else {
+            return Walked {
                 reach: i,
                 whole: false,
-            },
-        }
+            };
+        };
+        reading = then;
     }
     Walked {
         reach: line.len(),

@@ -1,11 +1,12 @@
 // How far a line is read, and what the next character leads to.
 ghost use Rattle.std.specs.Prelude.{◌≡◌};
-ghost use Rattle.lines.specs.Next.{next, label_next, variable_next, in_variable, go_next, into, in_name, on_blank, in_label, named, closed, begun, digits, stands};
+ghost use Rattle.lines.specs.declared.reading.Reading.{Reading};
+ghost use Rattle.lines.specs.Next.{next, label_next, variable_next, go_next, into, in_name, on_blank, in_label, named, closed, begun, digits, stands};
 
 use crate::mark::Mark;
 
 // A label of a go-to: of one for both verdicts, of the first of two at most, of the second.
-#[derive(Clone, Copy, Drop)]
+#[derive(Clone, Copy, Debug, PartialEq, Eq, Drop)]
 pub enum Way {
     Both,
     FirstS,
@@ -15,7 +16,7 @@ pub enum Way {
 }
 
 // Where a name, or `$` and a name, stands.
-#[derive(Clone, Copy, Drop)]
+#[derive(Clone, Copy, Debug, PartialEq, Eq, Drop)]
 pub enum Place {
     Reference,
     Element,
@@ -24,7 +25,7 @@ pub enum Place {
 }
 
 // Which part of a line a run of blanks stands in.
-#[derive(Clone, Copy, Drop)]
+#[derive(Clone, Copy, Debug, PartialEq, Eq, Drop)]
 pub enum Section {
     Reference,
     Start,
@@ -34,14 +35,14 @@ pub enum Section {
 }
 
 // The two sides of the equal sign.
-#[derive(Clone, Copy, Drop)]
+#[derive(Clone, Copy, Debug, PartialEq, Eq, Drop)]
 pub enum Side {
     Pattern,
     Right,
 }
 
 // What digits may still come in the length of a variable.
-#[derive(Clone, Copy, Drop)]
+#[derive(Clone, Copy, Debug, PartialEq, Eq, Drop)]
 pub enum Room {
     Three,
     Four,
@@ -53,7 +54,7 @@ pub enum Room {
 }
 
 // Column 1 and the label. Only END's line may have the label END, so its letters are followed.
-#[derive(Clone, Copy, Drop)]
+#[derive(Clone, Copy, Debug, PartialEq, Eq, Drop)]
 pub enum LabelReading {
     Begin,
     E,
@@ -64,7 +65,7 @@ pub enum LabelReading {
 }
 
 // Within a variable: `*X*`, `*(X)*`, `*X/"3"*`.
-#[derive(Clone, Copy, Drop)]
+#[derive(Clone, Copy, Debug, PartialEq, Eq, Drop)]
 pub enum VariableReading {
     Star,
     Name,
@@ -80,7 +81,7 @@ pub enum VariableReading {
 }
 
 // Within a go-to: `/(L)`, `/S(L)`, `/F(L)`, `/S(L)F(L)`, `/F(L)S(L)`.
-#[derive(Clone, Copy, Drop)]
+#[derive(Clone, Copy, Debug, PartialEq, Eq, Drop)]
 pub enum GoReading {
     Slash,
     S,
@@ -93,7 +94,7 @@ pub enum GoReading {
     Done,
 }
 
-#[derive(Clone, Copy, Drop)]
+#[derive(Clone, Copy, Debug, PartialEq, Eq, Drop)]
 pub enum Reading {
     Label(LabelReading),
     Gap(Section),
@@ -113,33 +114,28 @@ pub enum Reading {
 fn in_name(solidly: Reading, dotted: Reading, rest: Option<Reading>, m: Mark) -> Option<Reading>
     ensures { result ≡ in_name solidly dotted rest m }
 {
-    if m.is_solid() {
-        return Some(solidly);
-    }
     match m {
         Mark::Period => Some(dotted),
+        _ if m.is_solid() => Some(solidly),
         _ => rest,
     }
 }
 
-fn on_blank(m: Mark, then: Reading) -> Option<Reading>
-    ensures { result ≡ on_blank m then }
+// A run of blanks, where the mark begins one.
+fn gap(section: Section, m: Mark) -> Option<Reading>
+    ensures { result ≡ on_blank m (Reading.Gap section) }
 {
-    match m {
-        Mark::Blank => Some(then),
-        _ => None,
-    }
+    (m == Mark::Blank).then_some(Reading::Gap(section))
 }
 
 // More of a label, or the blank after it.
 fn in_label(m: Mark) -> Option<Reading>
     ensures { result ≡ in_label m }
 {
-    let gap = on_blank(m, Reading::Gap(Section::Reference));
     in_name(
         Reading::Label(LabelReading::Name),
         Reading::Label(LabelReading::Dot),
-        gap,
+        gap(Section::Reference, m),
         m,
     )
 }
@@ -153,7 +149,7 @@ fn label_next(reading: LabelReading, m: Mark) -> Option<Reading>
         LabelReading::Begin => match m {
             Mark::Blank => Some(Reading::Gap(Section::Reference)),
             Mark::LetterE => Some(Reading::Label(LabelReading::E)),
-            _ => if m.is_solid() { Some(name) } else { None },
+            _ => m.is_solid().then_some(name),
         },
         LabelReading::E => match m {
             Mark::LetterN => Some(Reading::Label(LabelReading::En)),
@@ -163,7 +159,7 @@ fn label_next(reading: LabelReading, m: Mark) -> Option<Reading>
             Mark::LetterD => Some(Reading::Label(LabelReading::End)),
             _ => in_label(m),
         },
-        LabelReading::End => in_name(name, dot, on_blank(m, Reading::Gap(Section::Start)), m),
+        LabelReading::End => in_name(name, dot, gap(Section::Start, m), m),
         LabelReading::Name => in_label(m),
         LabelReading::Dot => in_name(name, dot, None, m),
     }
@@ -185,12 +181,9 @@ fn named(place: Place, m: Mark) -> Option<Reading>
     ensures { result ≡ named place m }
 {
     match place {
-        Place::Reference | Place::Element => on_blank(m, Reading::Gap(Section::Pattern)),
-        Place::Operand => on_blank(m, Reading::Gap(Section::Right)),
-        Place::Target(way) => match m {
-            Mark::Close => Some(closed(way)),
-            _ => None,
-        },
+        Place::Reference | Place::Element => gap(Section::Pattern, m),
+        Place::Operand => gap(Section::Right, m),
+        Place::Target(way) => (m == Mark::Close).then_some(closed(way)),
     }
 }
 
@@ -201,38 +194,22 @@ fn begun(section: Section, m: Mark) -> Option<Reading>
     match section {
         Section::Reference => match m {
             Mark::Dollar => Some(Reading::Dollar(Place::Reference)),
-            _ => if m.is_solid() {
-                Some(Reading::Named(Place::Reference))
-            } else {
-                None
-            },
+            _ => m.is_solid().then_some(Reading::Named(Place::Reference)),
         },
-        Section::Start => if m.is_solid() {
-            Some(Reading::Start)
-        } else {
-            None
-        },
+        Section::Start => m.is_solid().then_some(Reading::Start),
         Section::Pattern => match m {
             Mark::Dollar => Some(Reading::Dollar(Place::Element)),
             Mark::Quote => Some(Reading::Literal(Side::Pattern)),
             Mark::Star => Some(Reading::Variable(VariableReading::Star)),
             Mark::Equal => Some(Reading::Equal),
             Mark::Slash => Some(Reading::Go(GoReading::Slash)),
-            _ => if m.is_solid() {
-                Some(Reading::Named(Place::Element))
-            } else {
-                None
-            },
+            _ => m.is_solid().then_some(Reading::Named(Place::Element)),
         },
         Section::Right => match m {
             Mark::Dollar => Some(Reading::Dollar(Place::Operand)),
             Mark::Quote => Some(Reading::Literal(Side::Right)),
             Mark::Slash => Some(Reading::Go(GoReading::Slash)),
-            _ => if m.is_solid() {
-                Some(Reading::Named(Place::Operand))
-            } else {
-                None
-            },
+            _ => m.is_solid().then_some(Reading::Named(Place::Operand)),
         },
         Section::Tail => None,
     }
@@ -275,17 +252,6 @@ fn digits(left: Room, m: Mark) -> Option<Reading>
     Some(Reading::Variable(VariableReading::Length(room)))
 }
 
-// A reading of a variable, where the mark is the one awaited.
-fn in_variable(awaited: bool, then: VariableReading) -> Option<Reading>
-    ensures { result ≡ in_variable awaited then }
-{
-    if awaited {
-        Some(Reading::Variable(then))
-    } else {
-        None
-    }
-}
-
 fn variable_next(reading: VariableReading, m: Mark) -> Option<Reading>
     ensures { result ≡ variable_next reading m }
 {
@@ -296,7 +262,7 @@ fn variable_next(reading: VariableReading, m: Mark) -> Option<Reading>
     match reading {
         VariableReading::Star => match m {
             Mark::Open => Some(Reading::Variable(VariableReading::Open)),
-            _ => in_variable(m.is_solid(), VariableReading::Name),
+            _ => m.is_solid().then_some(name),
         },
         VariableReading::Name => match m {
             Mark::Star => Some(Reading::Variable(VariableReading::Done)),
@@ -304,13 +270,15 @@ fn variable_next(reading: VariableReading, m: Mark) -> Option<Reading>
             _ => in_name(name, dot, None, m),
         },
         VariableReading::Dot => in_name(name, dot, None, m),
-        VariableReading::Open => in_variable(m.is_solid(), VariableReading::Group),
+        VariableReading::Open => m.is_solid().then_some(group),
         VariableReading::Group => match m {
             Mark::Close => Some(Reading::Variable(VariableReading::Closing)),
             _ => in_name(group, group_dot, None, m),
         },
         VariableReading::GroupDot => in_name(group, group_dot, None, m),
-        VariableReading::Slash => in_variable(m.is(Mark::Quote), VariableReading::Quote),
+        VariableReading::Slash => (m == Mark::Quote).then_some(Reading::Variable(
+            VariableReading::Quote,
+        )),
         VariableReading::Quote => match m {
             Mark::Zero | Mark::OneToThree => Some(Reading::Variable(VariableReading::Length(
                 Room::Three,
@@ -322,8 +290,10 @@ fn variable_next(reading: VariableReading, m: Mark) -> Option<Reading>
             _ => None,
         },
         VariableReading::Length(left) => digits(left, m),
-        VariableReading::Closing => in_variable(m.is(Mark::Star), VariableReading::Done),
-        VariableReading::Done => on_blank(m, Reading::Gap(Section::Pattern)),
+        VariableReading::Closing => (m == Mark::Star).then_some(Reading::Variable(
+            VariableReading::Done,
+        )),
+        VariableReading::Done => gap(Section::Pattern, m),
     }
 }
 
@@ -331,10 +301,7 @@ fn variable_next(reading: VariableReading, m: Mark) -> Option<Reading>
 fn into(way: Way, m: Mark) -> Option<Reading>
     ensures { result ≡ into way m }
 {
-    match m {
-        Mark::Open => Some(Reading::Go(GoReading::Into(way))),
-        _ => None,
-    }
+    (m == Mark::Open).then_some(Reading::Go(GoReading::Into(way)))
 }
 
 fn go_next(reading: GoReading, m: Mark) -> Option<Reading>
@@ -352,21 +319,17 @@ fn go_next(reading: GoReading, m: Mark) -> Option<Reading>
         GoReading::AlsoF => into(Way::SecondF, m),
         GoReading::Into(way) => match m {
             Mark::Dollar => Some(Reading::Dollar(Place::Target(way))),
-            _ => if m.is_solid() {
-                Some(Reading::Named(Place::Target(way)))
-            } else {
-                None
-            },
+            _ => m.is_solid().then_some(Reading::Named(Place::Target(way))),
         },
         GoReading::AfterS => match m {
             Mark::LetterF => Some(Reading::Go(GoReading::AlsoF)),
-            _ => on_blank(m, Reading::Gap(Section::Tail)),
+            _ => gap(Section::Tail, m),
         },
         GoReading::AfterF => match m {
             Mark::LetterS => Some(Reading::Go(GoReading::AlsoS)),
-            _ => on_blank(m, Reading::Gap(Section::Tail)),
+            _ => gap(Section::Tail, m),
         },
-        GoReading::Done => on_blank(m, Reading::Gap(Section::Tail)),
+        GoReading::Done => gap(Section::Tail, m),
     }
 }
 
@@ -380,29 +343,17 @@ impl Reading {
                 Mark::Blank => Some(self),
                 _ => begun(section, m),
             },
-            Reading::Start => in_name(
-                Reading::Start,
-                Reading::StartDot,
-                on_blank(m, Reading::Gap(Section::Tail)),
-                m,
-            ),
+            Reading::Start => in_name(Reading::Start, Reading::StartDot, gap(Section::Tail, m), m),
             Reading::StartDot => in_name(Reading::Start, Reading::StartDot, None, m),
-            Reading::Dollar(place) => if m.is_solid() {
-                Some(Reading::Named(place))
-            } else {
-                None
-            },
+            Reading::Dollar(place) => m.is_solid().then_some(Reading::Named(place)),
             Reading::Named(place) => in_name(self, Reading::Dotted(place), named(place, m), m),
             Reading::Dotted(place) => in_name(Reading::Named(place), self, None, m),
             Reading::Literal(side) => match m {
                 Mark::Quote => Some(Reading::Closed(side)),
                 _ => Some(self),
             },
-            Reading::Closed(Side::Pattern) => on_blank(m, Reading::Gap(Section::Pattern)),
-            Reading::Closed(Side::Right) | Reading::Equal => on_blank(
-                m,
-                Reading::Gap(Section::Right),
-            ),
+            Reading::Closed(Side::Pattern) => gap(Section::Pattern, m),
+            Reading::Closed(Side::Right) | Reading::Equal => gap(Section::Right, m),
             Reading::Variable(reading) => variable_next(reading, m),
             Reading::Go(reading) => go_next(reading, m),
         }
@@ -412,15 +363,15 @@ impl Reading {
     pub fn stands(self) -> bool
         ensures { result ≡ stands self }
     {
-        match self {
+        matches!(
+            self,
             Reading::Gap(Section::Pattern | Section::Right | Section::Tail)
-            | Reading::Start
-            | Reading::Named(Place::Reference | Place::Element | Place::Operand)
-            | Reading::Closed(_)
-            | Reading::Equal
-            | Reading::Variable(VariableReading::Done)
-            | Reading::Go(GoReading::AfterS | GoReading::AfterF | GoReading::Done) => true,
-            _ => false,
-        }
+                | Reading::Start
+                | Reading::Named(Place::Reference | Place::Element | Place::Operand)
+                | Reading::Closed(_)
+                | Reading::Equal
+                | Reading::Variable(VariableReading::Done)
+                | Reading::Go(GoReading::AfterS | GoReading::AfterF | GoReading::Done)
+        )
     }
 }

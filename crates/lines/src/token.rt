@@ -2,12 +2,12 @@
 ghost use Rattle.std.specs.Prelude.{◌≡◌};
 ghost use Rattle.lines.specs.Tokens.{Next};
 
-use crate::mark::mark_of;
+use crate::mark::Mark;
 use crate::reading::Reading;
-use crate::role::{Role, role_of};
+use crate::role::Role;
 
 // A part of a line with one role: where it starts, counted from 0, and its length.
-#[derive(Clone, Copy, Drop)]
+#[derive(Clone, Copy, Debug, PartialEq, Eq, Drop)]
 pub struct Token {
     pub role: Role,
     pub start: usize,
@@ -15,7 +15,7 @@ pub struct Token {
 }
 
 // A token, and the reading after it.
-#[derive(Clone, Copy, Drop)]
+#[derive(Clone, Copy, Debug, PartialEq, Eq, Drop)]
 pub struct Taken {
     pub token: Token,
     pub reading: Reading,
@@ -28,17 +28,15 @@ pub fn token_at(line: &[u8], from: usize, reading: Reading) -> Option<Taken>
     if from >= line.len() {
         return None;
     }
-    let Some(begun) = reading.next(mark_of(line[from])) else {
-        return None;
-    };
-    let role = role_of(begun);
+    let begun = reading.next(Mark::from(line[from]))?;
+    let role = Role::from(begun);
     let mut reading = begun;
     let mut end = from + 1;
     while end < line.len() {
-        let Some(then) = reading.next(mark_of(line[end])) else {
+        let Some(then) = reading.next(Mark::from(line[end])) else {
             break;
         };
-        if !role_of(then).same(role) {
+        if Role::from(then) != role {
             break;
         }
         reading = then;

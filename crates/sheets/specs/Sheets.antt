@@ -1,5 +1,6 @@
 -- A sheet's text as its lines, and what it is refused for. Assumes nothing.
-use Rattle.std.specs.Prelude.{◌≡◌, ℕ, suc, ◌+◌, false, cond, List, [], ◌∷◌, Some, None, Ok, Err, Option, Result, ◌==◌}
+pub use Rattle.lines.specs.Texts.{lines_of, line_length, on_first}
+use Rattle.std.specs.Prelude.{◌≡◌, ℕ, ◌+◌, false, List, [], ◌∷◌, Some, None, Ok, Err, Option, Result}
 use Rattle.symbols.specs.declared.fault.TextFault.{TextFault}
 use Rattle.sheets.specs.declared.check.Carried.{Carried}
 use Rattle.sheets.specs.declared.fault.Fault.{Fault}
@@ -8,21 +9,6 @@ use Rattle.sheets.specs.declared.fault.Refusal.{Refusal}
 use Rattle.sheets.specs.declared.part.Part.{Part}
 use Rattle.sheets.specs.Faults.{first, refused_at}
 use Rattle.sheets.specs.LineFaults.{Brought, line_faults, with_line, carried, Limited}
-
--- one more character in front of the first line
-abbrev pub on_first : ℕ → List (List ℕ) → List (List ℕ)
-on_first c [] = (c ∷ []) ∷ []
-on_first c (l ∷ ls) = (c ∷ l) ∷ ls
-
--- each line ends with code 10; the last may lack it
-unfoldable pub lines_of : List ℕ → List (List ℕ)
-lines_of [] = []
-lines_of (c ∷ s) = cond (c == 10) ([] ∷ lines_of s) (on_first c (lines_of s))
-
--- how long the first line is
-unfoldable pub line_length : List ℕ → ℕ
-line_length [] = 0
-line_length (c ∷ s) = cond (c == 10) 0 (suc (line_length s))
 
 -- a line's fault as the refusal of the sheet, or else what comes after the line
 abbrev pub refused_first : Option Fault → ℕ → Option Refusal → Option Refusal

@@ -1,5 +1,6 @@
 -- What a line's tokens count, and the faults of each, left to right. Assumes nothing.
-use Rattle.std.specs.Prelude.{◌≡◌, ℕ, ◌+◌, ◌≤◌, Bool, true, false, cond, ◌&&◌, List, [], ◌∷◌, ◌++◌, map, length, take, drop, Some, None, Ok, Err, Option, Result, nat_le, nat_lt}
+pub use Rattle.lines.specs.Texts.{Lies}
+use Rattle.std.specs.Prelude.{◌≡◌, ℕ, ◌+◌, ◌≤◌, Bool, true, false, cond, ◌&&◌, List, [], ◌∷◌, ◌++◌, map, length, take, Some, None, Ok, Err, Option, Result, nat_le, nat_lt}
 use Rattle.lines.specs.declared.token.Token.{Token}
 use Rattle.symbols.specs.declared.fault.TextFault.{TextFault}
 use Rattle.symbols.specs.Texts.{text_read, counted}
@@ -127,10 +128,6 @@ joined (Some f) (Err g) = cond (before g f) (Err g) (Err f)
 abbrev pub Took : Option Fault → Count → List ℕ → List Part → Result Tally Fault → Type 0
 Took fault count text names (Ok t) = (fault ≡ None) × (told text names t ≡ count) × Within t
 Took fault count text names (Err f) = fault ≡ Some f
-
--- the line stands in the text from a place on
-abbrev pub Lies : List ℕ → ℕ → List ℕ → Type 0
-Lies text k s = s ≡ take (length s) (drop k text)
 
 -- the fault of the first of two things that has one
 abbrev pub or_else : Option Fault → Option Fault → Option Fault

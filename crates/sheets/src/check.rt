@@ -79,7 +79,7 @@ fn label_size(line: &[u8]) -> usize
     let Some(taken) = token_at(line, 0, Reading::Label(LabelReading::Begin)) else {
         return 0;
     };
-    if taken.token.role.same(Role::Label) {
+    if taken.token.role == Role::Label {
         taken.token.size
     } else {
         0

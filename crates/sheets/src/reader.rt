@@ -8,21 +8,8 @@ ghost use Rattle.sheets.specs.Tallies.{counts, Lies};
 use crate::check::{Carried, check_line};
 use crate::fault::{LineFault, Refusal};
 use crate::part::Part;
+pub use lines::text::line_end;
 use symbols::kind::Kind;
-
-// The end of the line that begins at `from`.
-pub fn line_end(text: &[u8], from: usize) -> usize
-    requires { from ≤ length text.now }
-    ensures within { result ≤ length text.now }
-    ensures above { from ≤ result }
-    ensures value { result - from ≡ line_length (drop from text.now) }
-{
-    let mut end = from;
-    while end < text.len() && text[end] != 10 {
-        end += 1;
-    }
-    end
-}
 
 // One line, with its number in its fault.
 fn check_numbered<K: Kind>(

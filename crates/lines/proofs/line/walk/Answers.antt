@@ -17,10 +17,10 @@ loop-i-preserved c =
       c.loop-i.invariant.1 ∙ lands_more c.loop-i.reading c.args.line.now c.loop-i.i h c.in-Some.then e,
     )
 
-pub returns-in-None : goal.returns-in-None
-returns-in-None c =
+pub returns-in_default : goal.returns-in_default
+returns-in_default c =
     let h : c.loop-i.i < length c.args.line.now = omega arith in
-    let e₀ = c.in-None.ensures in
+    let e₀ = c.in_default.ensures in
     let e : next c.loop-i.reading (mark_of (get_or c.args.line.now c.loop-i.i 0)) ≡ None = cc in
     let v : c.loop-i.i ≡ longest c.args.line.now = stops c.loop-i.reading c.args.line.now c.loop-i.i c.loop-i.invariant.0 h e in
     let w = lands_stop c.loop-i.reading c.args.line.now c.loop-i.i h e in

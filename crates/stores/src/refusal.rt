@@ -2,13 +2,15 @@
 ghost use Rattle.std.specs.Prelude.{◌≡◌};
 ghost use Rattle.stores.specs.Calls.{store_number};
 
-use std::error::Error;
-use std::fmt;
+use thiserror::Error;
 
-#[derive(Clone, Copy, PartialEq, Eq, Debug)]
+#[derive(Clone, Copy, PartialEq, Eq, Debug, Error)]
 pub enum StoreRefusal {
+    #[error("the area is shorter than the string")]
     ShortArea = 23,
+    #[error("a string, or all strings together, would be longer than the limit")]
     TooLong = 26,
+    #[error("no string has the number, or a limit is out of range")]
     OutOfRange = 27,
 }
 
@@ -20,16 +22,3 @@ impl StoreRefusal {
         self as u8
     }
 }
-
-impl fmt::Display for StoreRefusal {
-    fn fmt<W: fmt::Write>(&self, f: &mut fmt::Formatter<W>) -> fmt::Result {
-        f.write_str(match self {
-            StoreRefusal::ShortArea => "the area is shorter than the string",
-            StoreRefusal::TooLong =>
-                "a string, or all strings together, would be longer than the limit",
-            StoreRefusal::OutOfRange => "a number or a limit is out of range",
-        })
-    }
-}
-
-impl Error for StoreRefusal {}

@@ -17,16 +17,17 @@ use anyhow::anyhow;
 use packed::PackedStore;
 use slots::SlotStore;
 use std::io::Read;
+use stores::limits::Limits;
 use symbols::bus::BusEvents;
 use symbols::kind::Kind;
 use symbols::log::LogChars;
 use symbols::log_char::LogChar;
 
-const NAMES: usize = 64;
-
-const LONGEST: usize = 1024;
-
-const MOST: usize = 65536;
+const LIMITS: Limits = Limits {
+    names: 64,
+    longest: 1024,
+    most: 65536,
+};
 
 // Both stores, and how many IDs were found.
 #[derive(Drop)]
@@ -83,11 +84,11 @@ fn run(rt: &HostRuntime) -> anyhow::Result<()> {
     let mut input = Vec::new(rt.alloc());
     rt.stdin().read_to_end(&mut input)?;
     let brackets = Brackets::new()?;
-    let mut slot_area = area(rt.alloc(), brackets.opening, MOST)?;
-    let mut packed_area = area(rt.alloc(), brackets.opening, MOST)?;
+    let mut slot_area = area(rt.alloc(), brackets.opening, LIMITS.most)?;
+    let mut packed_area = area(rt.alloc(), brackets.opening, LIMITS.most)?;
     let mut kept = Kept {
-        slots: SlotStore::new(slot_area.as_mut_slice(), NAMES, LONGEST),
-        packed: PackedStore::new(packed_area.as_mut_slice(), NAMES, LONGEST, MOST),
+        slots: SlotStore::new(slot_area.as_mut_slice(), LIMITS.names, LIMITS.longest),
+        packed: PackedStore::new(packed_area.as_mut_slice(), LIMITS),
         found: 0,
     };
     take_lines(rt, input.as_slice(), &brackets, &mut kept)?;

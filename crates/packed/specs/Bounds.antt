@@ -29,4 +29,4 @@ pack_bounded area table n l t = shown_bounded (packs table n l t (length area)) 
     laid_bounded (λ m. m) area table n l t (length area) p.0 (omega (arith, size_le (lengths n l table) area)))
 
 pub packed_bounds : {X : Type 0} (s : PackedStore X) → Bounded (packed_names s)
-packed_bounds s = pack_bounded s.area.now s.lengths s.names s.longest s.most
+packed_bounds s = pack_bounded s.area.now s.lengths s.limits.names s.limits.longest s.limits.most

@@ -18,20 +18,20 @@ in_pack area table n l t = cond (packs table n l t (length area)) (laid (λ m. m
 
 -- what a packed store means, whatever its fields hold
 abbrev pub packed_names : {X : Type 0} → PackedStore X → Names X
-packed_names s = in_pack s.area.now s.lengths s.names s.longest s.most
+packed_names s = in_pack s.area.now s.lengths s.limits.names s.limits.longest s.limits.most
 
 -- the part is the string of number k, behind the strings before it, and all lie within the most
 pub record Packed {X : Type 0} (s : PackedStore X) (k : ℕ) (part : Part) : Type 0 where
   pub lies : Lies (packed_names s) s.area.now k part
-  pub starts : part.start ≡ sum (lengths (k - 1) s.longest s.lengths)
-  pub lasts : part.length ≡ min (slice_index s.lengths (k - 1)) s.longest
-  pub within : part.start + part.length ≤ sum (lengths s.names s.longest s.lengths)
-  pub full : sum (lengths s.names s.longest s.lengths) ≤ s.most
-  pub fits : s.most ≤ length s.area.now
+  pub starts : part.start ≡ sum (lengths (k - 1) s.limits.longest s.lengths)
+  pub lasts : part.length ≡ min (slice_index s.lengths (k - 1)) s.limits.longest
+  pub within : part.start + part.length ≤ sum (lengths s.limits.names s.limits.longest s.lengths)
+  pub full : sum (lengths s.limits.names s.limits.longest s.lengths) ≤ s.limits.most
+  pub fits : s.limits.most ≤ length s.area.now
   pub some : 1 ≤ k
-  pub high : k ≤ s.names
-  pub few : s.names ≤ 64
-  pub short : s.longest ≤ 4096
+  pub high : k ≤ s.limits.names
+  pub few : s.limits.names ≤ 64
+  pub short : s.limits.longest ≤ 4096
 
 -- where the string of number k lies, or why it has none
 abbrev pub Found : {X : Type 0} → PackedStore X → ℕ → Result Part StoreRefusal → Type 0

@@ -1,26 +1,25 @@
 // The packed store: strings back to back at the front of one lent area.
 #![tactic(auto)]
 
-ghost use Rattle.std.specs.Prelude.{◌≡◌, ℕ, ◌+◌, ◌-◌, ◌<◌, ◌≤◌, length, take, drop, sum, slice_index_or};
-ghost use Rattle.symbols.specs.Answers.{over};
+ghost use Rattle.std.specs.Prelude.{◌≡◌, ℕ, ◌+◌, ◌-◌, ◌<◌, ◌≤◌, length, sum, slice_index_or};
 ghost use Rattle.stores.specs.Ranges.{new_names};
 ghost use Rattle.stores.specs.Calls.{put_answer, after_put};
-ghost use Rattle.stores.specs.Parts.{lengths, written};
+ghost use Rattle.stores.specs.Parts.{lengths};
 ghost use Rattle.packed.specs.Packs.{packs, packed_names, Found};
 ghost use Rattle.packed.specs.Bounds.{packed_bounds};
 
-use stores::limits::{Limits, fits};
+use stores::copy::{copy_at, copy_front};
+use stores::limits::Limits;
 use stores::part::Part;
 use stores::refusal::StoreRefusal;
 use stores::store::{Store, is_outside};
 
+// The host supplies all memory, so that the lengths have an array of a fixed size.
 #[derive(Drop)]
 pub struct PackedStore<'a, T> {
     area: &'a mut [T],
     lengths: [u16; 64],
-    names: usize,
-    longest: usize,
-    most: usize,
+    limits: Limits,
 }
 
 // How many symbols the first `count` strings have together.
@@ -29,25 +28,10 @@ fn total(table: &[u16; 64], longest: usize, count: usize) -> usize
     ensures { result ≡ sum (lengths count longest table.now) }
 {
     let mut sum = 0;
-    for i in 0..count {
-        sum += (table[i] as usize).min(longest);
+    for length in &table[..count] {
+        sum += usize::from(*length).min(longest);
     }
     sum
-}
-
-fn write_at<T: Copy>(area: &mut [T], start: usize, string: &[T])
-    requires { start + length string.now ≤ length area.old }
-    ensures { area.new ≡ written start string.now area.old }
-{
-    area[start..start + string.len()].copy_from_slice(string);
-}
-
-fn read_part<T: Copy>(area: &[T], part: Part, out: &mut [T])
-    requires { (part.start + part.length ≤ length area.now) × (part.length ≤ length out.old) }
-    ensures { out.new ≡ over (take part.length (drop part.start area.now)) out.old }
-{
-    let (start, length) = (part.start, part.length);
-    out[0..length].copy_from_slice(&area[start..start + length]);
 }
 
 // Shifts what lies behind the old part, up to `end`, so that `wanted` symbols fit before it.
@@ -71,47 +55,37 @@ fn make_room<T>(area: &mut [T], old: Part, end: usize, wanted: usize)
 
 impl<'a, T: Copy> PackedStore<'a, T> {
     // Null strings over the area, or no string where the check refuses.
-    pub fn new(area: &'a mut [T], names: usize, longest: usize, most: usize) -> PackedStore<'a, T>
-        ensures means { packed_names result ≡ new_names names longest most (length area.old) }
+    pub fn new(area: &'a mut [T], limits: Limits) -> PackedStore<'a, T>
+        ensures means { packed_names result ≡ new_names limits.names limits.longest limits.most (length area.old) }
         ensures named { result.area.ghost_name ≡ area.entry.ghost_name }
     {
         PackedStore {
             area,
             lengths: [0; 64],
-            names,
-            longest,
-            most,
+            limits,
         }
     }
 
     // Whether the limits are in range and fit the area, and the strings fit the limits.
     fn is_packed(&self) -> bool
-        ensures { result ≡ packs self.now.lengths self.now.names self.now.longest self.now.most (length self.now.area.now) }
+        ensures { result ≡ packs self.now.lengths self.now.limits.names self.now.limits.longest self.now.limits.most (length self.now.area.now) }
     {
-        if !fits(self.names, self.longest, self.most, self.area.len()) {
-            return false;
-        }
-        total(&self.lengths, self.longest, self.names) <= self.most
-    }
-
-    // How many strings there are: none where the fields do not fit together.
-    fn count(&self) -> usize
-        ensures { result ≡ length (packed_names self.now).strings }
-    {
-        if self.is_packed() { self.names } else { 0 }
+        let limits = self.limits;
+        limits.fits(self.area.len())
+            && total(&self.lengths, limits.longest, limits.names) <= limits.most
     }
 
     // Where the string of a number lies.
     fn find(&self, number: usize) -> Result<Part, StoreRefusal>
         ensures { Found self.now number result }
     {
-        if is_outside(number, self.count()) {
+        if is_outside(number, self.tell().names) {
             return Err(StoreRefusal::OutOfRange);
         }
         let k = number - 1;
         Ok(Part {
-            start: total(&self.lengths, self.longest, k),
-            length: (self.lengths[k] as usize).min(self.longest),
+            start: total(&self.lengths, self.limits.longest, k),
+            length: (self.lengths[k] as usize).min(self.limits.longest),
         })
     }
 }
@@ -129,27 +103,23 @@ impl<'a, T: Copy> Store for PackedStore<'a, T> {
         ensures named { self.new.area.ghost_name ≡ self.old.area.ghost_name }
     {
         let old = self.find(number)?;
-        if string.len() > self.longest {
+        if string.len() > self.limits.longest {
             return Err(StoreRefusal::TooLong);
         }
-        let end = total(&self.lengths, self.longest, self.names);
-        if string.len() > self.most - (end - old.length) {
+        let end = total(&self.lengths, self.limits.longest, self.limits.names);
+        if string.len() > self.limits.most - (end - old.length) {
             return Err(StoreRefusal::TooLong);
         }
         let length = string.len() as u16;
         make_room(self.area, old, end, string.len());
-        write_at(self.area, old.start, string);
+        copy_at(self.area, old.start, string);
         self.lengths[number - 1] = length;
         Ok(())
     }
 
     fn fetch(&self, number: usize, area: &mut [T]) -> Result<usize, StoreRefusal> {
         let part = self.find(number)?;
-        if part.length > area.len() {
-            return Err(StoreRefusal::ShortArea);
-        }
-        read_part(self.area, part, area);
-        Ok(part.length)
+        copy_front(area, part.of(self.area))
     }
 
     fn length(&self, number: usize) -> Result<usize, StoreRefusal> {
@@ -157,18 +127,12 @@ impl<'a, T: Copy> Store for PackedStore<'a, T> {
         Ok(part.length)
     }
 
+    // No string where the fields do not fit together.
     fn tell(&self) -> Limits {
-        if !self.is_packed() {
-            return Limits {
-                names: 0,
-                longest: 0,
-                most: 0,
-            };
-        }
-        Limits {
-            names: self.names,
-            longest: self.longest,
-            most: self.most,
+        if self.is_packed() {
+            self.limits
+        } else {
+            Limits::NONE
         }
     }
 }
@@ -176,7 +140,7 @@ impl<'a, T: Copy> Store for PackedStore<'a, T> {
 #[cfg(test)]
 mod tests {
     use crate::PackedStore;
-    use stores::limits::{Limits, check as check_limits};
+    use stores::limits::Limits;
     use stores::refusal::StoreRefusal;
     use stores::store::Store;
 
@@ -184,9 +148,14 @@ mod tests {
     #[test]
     fn three_strings(rt: HostRuntime) {
         let mut area = [0u8; 9];
-        assert_eq!(rt; check_limits(3, 4, 8, 9), Ok(()));
-        assert_eq!(rt; check_limits(3, 4, 8, 7), Err(StoreRefusal::OutOfRange));
-        let mut store = PackedStore::new(&mut area, 3, 4, 8);
+        let limits = Limits {
+            names: 3,
+            longest: 4,
+            most: 8,
+        };
+        assert_eq!(rt; limits.check(9), Ok(()));
+        assert_eq!(rt; limits.check(7), Err(StoreRefusal::OutOfRange));
+        let mut store = PackedStore::new(&mut area, limits);
         assert_eq!(rt; store.put(2, b"abc"), Ok(()));
         assert_eq!(rt; store.put(3, b"q"), Ok(()));
         assert_eq!(rt; store.put(1, b"wxyz"), Ok(()));
@@ -205,11 +174,6 @@ mod tests {
             Err(StoreRefusal::ShortArea)
         );
         assert_eq!(rt; store.length(1), Ok(2));
-        let limits = Limits {
-            names: 3,
-            longest: 4,
-            most: 8,
-        };
         assert_eq!(rt; store.tell(), limits);
     }
 }

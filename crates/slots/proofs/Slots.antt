@@ -1,7 +1,9 @@
 -- What the calls of a slot store answer and leave, over the values of its fields. Assumes nothing.
-use Rattle.std.proofs.Common.{◌≡◌, ℕ, zero, suc, ◌+◌, ◌-◌, ◌*◌, ◌<◌, ◌≤◌, min, true, cond, List, [], ◌∷◌, length, get_or, take, drop, set, replicate, None, sym, ap, ◌∙◌, arith}
-use Rattle.std.proofs.lemmas.Bool.{cond-true}
+use Rattle.std.proofs.Common.{◌≡◌, ℕ, zero, suc, ◌+◌, ◌-◌, ◌*◌, ◌^◌, ◌<◌, ◌≤◌, min, true, cond, List, [], ◌∷◌, length, get_or, take, drop, set, replicate, None, sym, ap, ◌∙◌, ⊎_elim, false, arith}
+use Rattle.std.proofs.lemmas.Bool.{cond-true, cond-false, cases_lt}
+use Rattle.std.proofs.lemmas.Bool.Decides.{nat_tests}
 use Rattle.std.proofs.lemmas.List.{length-set}
+use Rattle.stores.specs.declared.limits.Limits.{Limits}
 use Rattle.stores.specs.declared.part.Part.{Part}
 use Rattle.stores.specs.Names.{Names, nothing, size, limits, under, with_string}
 use Rattle.stores.specs.Ranges.{in_range, new_names}
@@ -23,6 +25,17 @@ set_short w (x ∷ xs) zero s le h (suc j) = h (suc j)
 set_short w (x ∷ xs) (suc k) s le h zero = h 0
 set_short w (x ∷ xs) (suc k) s le h (suc j) = set_short w xs k s le (λ i. h (suc i)) j
 
+-- a most that is cut off where no usize holds it is out of range, as the whole product is
+pub cut_off : (n l most room : ℕ) → most ≡ min (n * l) (2 ^ 64 - 1) → in_range n l most room ≡ in_range n l (n * l) room
+unfolding in_range
+cut_off n l most room e = ⊎_elim small large (cases_lt (n * l) (2 ^ 64))
+  where
+    small : n * l < 2 ^ 64 → in_range n l most room ≡ in_range n l (n * l) room
+    small h = let same : most ≡ n * l = omega arith in ap (λ t. in_range n l t room) same
+
+    large : 2 ^ 64 ≤ n * l → in_range n l most room ≡ in_range n l (n * l) room
+    large h = grind (arith, nat_tests)
+
 -- what is known where a number is accepted
 pub record Inside {X : Type 0} (area : List X) (table : List ℕ) (n l k : ℕ) : Type 0 where
   pub test : in_range n l (n * l) (length area) ≡ true
@@ -41,6 +54,19 @@ module _ {X : Type 0} (area : List X) (table : List ℕ) (n l : ℕ) where
   pub slots_limits : limits (in_slots area table n l) ≡ cond (in_range n l (n * l) (length area)) (record { names = n; longest = l; most = n * l }) (limits {X = X} nothing)
   unfolding in_slots
   slots_limits = shown_limits (λ _. l) area table n l (n * l) (in_range n l (n * l) (length area))
+
+  -- what a store tells, by the most that is cut off
+  pub told_fit : (m : Limits) → m.names ≡ n → m.longest ≡ l → m.most ≡ min (n * l) (2 ^ 64 - 1) → in_range m.names m.longest m.most (length area) ≡ true → m ≡ limits (in_slots area table n l)
+  told_fit m en el em fits =
+      let small = (range_parts m.names m.longest m.most (length area) fits).small in
+      let all : m.most ≡ n * l = omega arith in
+      let test : in_range n l (n * l) (length area) ≡ true = (λ j. in_range (sym en j) (sym el j) (sym all j) (length area)) ∙ fits in
+      (λ j. record { names = en j; longest = el j; most = all j }) ∙ sym (slots_limits ∙ cond-true _ _ _ test)
+
+  pub told_unfit : (m : Limits) → m.names ≡ n → m.longest ≡ l → m.most ≡ min (n * l) (2 ^ 64 - 1) → in_range m.names m.longest m.most (length area) ≡ false → limits {X = X} nothing ≡ limits (in_slots area table n l)
+  told_unfit m en el em unfit =
+      let test : in_range n l (n * l) (length area) ≡ false = sym (cut_off n l m.most (length area) em) ∙ (λ j. in_range (sym en j) (sym el j) m.most (length area)) ∙ unfit in
+      sym (slots_limits ∙ cond-false _ _ _ test)
 
   pub slot_inside : (k : ℕ) → number_refusal (in_slots area table n l) k ≡ None → Inside area table n l k
   unfolding in_slots

@@ -1,19 +1,20 @@
 // The slot store: strings in slots of one width, in one lent area.
 #![tactic(auto)]
 
-ghost use Rattle.std.specs.Prelude.{◌≡◌, ◌+◌, ◌-◌, ◌*◌, ◌≤◌, length, take, drop};
-ghost use Rattle.symbols.specs.Answers.{answered, over};
-ghost use Rattle.stores.specs.Ranges.{in_range, check_refusal, new_names};
+ghost use Rattle.std.specs.Prelude.{◌≡◌, ◌-◌, ◌*◌, ◌^◌, min, length};
+ghost use Rattle.symbols.specs.Answers.{answered};
+ghost use Rattle.stores.specs.Ranges.{check_refusal, new_names};
 ghost use Rattle.stores.specs.Calls.{put_answer, after_put};
-ghost use Rattle.stores.specs.Parts.{written};
 ghost use Rattle.slots.specs.Slots.{slot_names, Found};
 ghost use Rattle.slots.specs.Bounds.{slot_bounds};
 
-use stores::limits::{Limits, fits};
+use stores::copy::{copy_at, copy_front};
+use stores::limits::Limits;
 use stores::part::Part;
 use stores::refusal::StoreRefusal;
 use stores::store::{Store, is_outside};
 
+// The host supplies all memory, so that the lengths have an array of a fixed size.
 #[derive(Drop)]
 pub struct SlotStore<'a, T> {
     area: &'a mut [T],
@@ -22,39 +23,25 @@ pub struct SlotStore<'a, T> {
     longest: usize,
 }
 
-// Whether so many slots of one width are in range and fit an area of `room` symbols.
-fn slots_fit(names: usize, longest: usize, room: usize) -> bool
-    ensures { result ≡ in_range names longest (names * longest) room }
+// The limits of so many slots of one width; a most that no usize holds is out of range.
+fn slot_limits(names: usize, longest: usize) -> Limits
+    ensures names { result.names ≡ names }
+    ensures longest { result.longest ≡ longest }
+    ensures most { result.most ≡ min (names * longest) (2 ^ 64 - 1) }
 {
-    if names > 64 || longest > 4096 {
-        return false;
+    Limits {
+        names,
+        longest,
+        most: names.saturating_mul(longest),
     }
-    fits(names, longest, names * longest, room)
 }
 
 // The check before a store is made.
+#[tactic(auto, using(crate::proofs::Slots::cut_off), unfolding(stores::specs::Ranges::check_refusal))]
 pub fn check_slots(names: usize, longest: usize, room: usize) -> Result<(), StoreRefusal>
     ensures { result ≡ answered (check_refusal names longest (names * longest) room) tt }
 {
-    if slots_fit(names, longest, room) {
-        return Ok(());
-    }
-    Err(StoreRefusal::OutOfRange)
-}
-
-fn write_at<T: Copy>(area: &mut [T], start: usize, string: &[T])
-    requires { start + length string.now ≤ length area.old }
-    ensures { area.new ≡ written start string.now area.old }
-{
-    area[start..start + string.len()].copy_from_slice(string);
-}
-
-fn read_part<T: Copy>(area: &[T], part: Part, out: &mut [T])
-    requires { (part.start + part.length ≤ length area.now) × (part.length ≤ length out.old) }
-    ensures { out.new ≡ over (take part.length (drop part.start area.now)) out.old }
-{
-    let (start, length) = (part.start, part.length);
-    out[0..length].copy_from_slice(&area[start..start + length]);
+    slot_limits(names, longest).check(room)
 }
 
 impl<'a, T: Copy> SlotStore<'a, T> {
@@ -71,22 +58,11 @@ impl<'a, T: Copy> SlotStore<'a, T> {
         }
     }
 
-    // How many strings there are: none where the fields do not fit the area.
-    fn count(&self) -> usize
-        ensures { result ≡ length (slot_names self.now).strings }
-    {
-        if slots_fit(self.names, self.longest, self.area.len()) {
-            self.names
-        } else {
-            0
-        }
-    }
-
     // Where the string of a number lies.
     fn find(&self, number: usize) -> Result<Part, StoreRefusal>
         ensures { Found (slot_names self.now) self.now.area.now self.now.longest number result }
     {
-        if is_outside(number, self.count()) {
+        if is_outside(number, self.tell().names) {
             return Err(StoreRefusal::OutOfRange);
         }
         let k = number - 1;
@@ -114,18 +90,14 @@ impl<'a, T: Copy> Store for SlotStore<'a, T> {
             return Err(StoreRefusal::TooLong);
         }
         let length = string.len() as u16;
-        write_at(self.area, slot.start, string);
+        copy_at(self.area, slot.start, string);
         self.lengths[number - 1] = length;
         Ok(())
     }
 
     fn fetch(&self, number: usize, area: &mut [T]) -> Result<usize, StoreRefusal> {
         let part = self.find(number)?;
-        if part.length > area.len() {
-            return Err(StoreRefusal::ShortArea);
-        }
-        read_part(self.area, part, area);
-        Ok(part.length)
+        copy_front(area, part.of(self.area))
     }
 
     fn length(&self, number: usize) -> Result<usize, StoreRefusal> {
@@ -133,18 +105,13 @@ impl<'a, T: Copy> Store for SlotStore<'a, T> {
         Ok(part.length)
     }
 
+    // No string where the fields do not fit the area.
     fn tell(&self) -> Limits {
-        if !slots_fit(self.names, self.longest, self.area.len()) {
-            return Limits {
-                names: 0,
-                longest: 0,
-                most: 0,
-            };
-        }
-        Limits {
-            names: self.names,
-            longest: self.longest,
-            most: self.names * self.longest,
+        let limits = slot_limits(self.names, self.longest);
+        if limits.fits(self.area.len()) {
+            limits
+        } else {
+            Limits::NONE
         }
     }
 }

@@ -2,9 +2,10 @@
 use Rattle.std.proofs.Common.{◌≡◌, ℕ, zero, suc, ◌+◌, ◌-◌, ◌<◌, ◌≤◌, Bool, true, false, cond, ◌||◌, eqb, ltb, List, [], ◌∷◌, length, get_or, set, Some, None, Option, sym, refl, ap, ◌∙◌, arith}
 use Rattle.std.proofs.lemmas.Bool.{or_parts, eqb-false, ltb-false, lt-ltb, le-ltb, cond-true, cond-false, or_left, or_right, or_from}
 use Rattle.stores.specs.declared.refusal.StoreRefusal.{StoreRefusal}
-use Rattle.stores.specs.declared.refusal.StoreRefusal.TheVariants.{ShortArea, TooLong, OutOfRange}
+use Rattle.stores.specs.declared.refusal.StoreRefusal.TheVariants.{TooLong, OutOfRange}
 use Rattle.stores.specs.Names.{Names, size, under}
-use Rattle.stores.specs.Calls.{outside, too_long, number_refusal, put_refusal, fetch_refusal}
+use Rattle.symbols.specs.Answers.{answered, unless, over}
+use Rattle.stores.specs.Calls.{outside, too_long, number_refusal, put_refusal, room_refusal, fetch_refusal, fetch_answer, after_fetch}
 
 -- what a refusal of the number says of the test behind it, and of every call that makes the test first
 first_none : (b : Bool) (o : Option StoreRefusal) → cond b (Some OutOfRange) o ≡ None → b ≡ false
@@ -58,13 +59,17 @@ module _ {X : Type 0} (names : Names X) (k : ℕ) (ok : number_refusal names k �
   unfolding outside
   number_is = inside k (length names.strings) not_outside
 
-  pub fetch_short : (room : ℕ) → room < length (under names k) → fetch_refusal names k room ≡ Some ShortArea
+  -- a fetch copies the string
+  pub fetch_copies : (s area : List X) → under names k ≡ s → (answered (room_refusal (length area) s) (length s) ≡ fetch_answer names k area) × (unless (room_refusal (length area) s) area (over s area) ≡ after_fetch names k area)
   unfolding fetch_refusal
-  fetch_short room h = cond-false _ _ _ not_outside ∙ cond-true _ _ _ (lt-ltb room (length (under names k)) h)
-
-  pub fetch_fits : (room : ℕ) → length (under names k) ≤ room → fetch_refusal names k room ≡ None
-  unfolding fetch_refusal
-  fetch_fits room h = cond-false _ _ _ not_outside ∙ cond-false _ _ _ (le-ltb room (length (under names k)) h)
+  fetch_copies s area is =
+      let same : room_refusal (length area) s ≡ fetch_refusal names k (length area) = ap (room_refusal (length area)) (sym is) ∙ sym by_room in (
+        ap (λ o. answered o (length s)) same ∙ ap (λ t. answered (fetch_refusal names k (length area)) (length t)) (sym is),
+        ap (λ o. unless o area (over s area)) same ∙ ap (λ t. unless (fetch_refusal names k (length area)) area (over t area)) (sym is),
+      )
+    where
+      by_room : fetch_refusal names k (length area) ≡ room_refusal (length area) (under names k)
+      by_room = cond-false _ _ _ not_outside
 
   pub put_long : (s : List X) → names.longest < length s → put_refusal names k s ≡ Some TooLong
   unfolding put_refusal too_long

@@ -27,9 +27,13 @@ number_refusal names k = cond (outside names k) (Some OutOfRange) None
 unfoldable pub put_refusal : {X : Type 0} → Names X → ℕ → List X → Option StoreRefusal
 put_refusal names k s = cond (outside names k) (Some OutOfRange) (cond (too_long names k s) (Some TooLong) None)
 
+-- why the string s is not copied to an area of `room` symbols
+abbrev pub room_refusal : {X : Type 0} → ℕ → List X → Option StoreRefusal
+room_refusal room s = cond (nat_lt room (length s)) (Some ShortArea) None
+
 -- why the string of number k is not copied to an area of `room` symbols
 unfoldable pub fetch_refusal : {X : Type 0} → Names X → ℕ → ℕ → Option StoreRefusal
-fetch_refusal names k room = cond (outside names k) (Some OutOfRange) (cond (nat_lt room (length (under names k))) (Some ShortArea) None)
+fetch_refusal names k room = cond (outside names k) (Some OutOfRange) (room_refusal room (under names k))
 
 -- what a put answers, and the names after it
 abbrev pub put_answer : {X : Type 0} → Names X → ℕ → List X → Result (Unit {0}) StoreRefusal

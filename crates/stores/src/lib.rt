@@ -1,6 +1,7 @@
 // Stores: the interface of a store of numbered strings, what every store means, and lists of puts.
 #![tactic(auto)]
 
+pub mod copy;
 pub mod limits;
 pub mod part;
 pub mod put;

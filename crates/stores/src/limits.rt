@@ -13,28 +13,32 @@ pub struct Limits {
     pub most: usize,
 }
 
-// Whether the limits are in range, and an area of `room` symbols takes the most.
-pub fn fits(names: usize, longest: usize, most: usize, room: usize) -> bool
-    ensures { result ≡ in_range names longest most room }
-{
-    if names < 1 || names > 64 {
-        return false;
-    }
-    if longest < 1 || longest > 4096 {
-        return false;
-    }
-    if most < 1 || most > 65536 {
-        return false;
-    }
-    most <= room
-}
+impl Limits {
+    // What a store tells that was made against the check.
+    pub const NONE: Limits = Limits {
+        names: 0,
+        longest: 0,
+        most: 0,
+    };
 
-// The check before a store is made.
-pub fn check(names: usize, longest: usize, most: usize, room: usize) -> Result<(), StoreRefusal>
-    ensures { result ≡ answered (check_refusal names longest most room) tt }
-{
-    if fits(names, longest, most, room) {
-        return Ok(());
+    // Whether the limits are in range, and an area of `room` symbols takes the most.
+    #[tactic(auto, unfolding(crate::specs::Ranges::in_range))]
+    pub fn fits(self, room: usize) -> bool
+        ensures { result ≡ in_range self.names self.longest self.most room }
+    {
+        let names = (1..=64).contains(&self.names);
+        let longest = (1..=4096).contains(&self.longest);
+        let most = (1..=65536).contains(&self.most);
+        names && longest && most && self.most <= room
     }
-    Err(StoreRefusal::OutOfRange)
+
+    // The check before a store is made.
+    #[tactic(auto, unfolding(crate::specs::Ranges::check_refusal))]
+    pub fn check(self, room: usize) -> Result<(), StoreRefusal>
+        ensures { result ≡ answered (check_refusal self.names self.longest self.most room) tt }
+    {
+        self.fits(room)
+            .then_some(())
+            .ok_or(StoreRefusal::OutOfRange)
+    }
 }

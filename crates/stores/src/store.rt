@@ -39,5 +39,5 @@ pub trait Store {
 pub fn is_outside(number: usize, names: usize) -> bool
     ensures { result ≡ (number == 0 || nat_lt names number) }
 {
-    if number == 0 { true } else { number > names }
+    number == 0 || number > names
 }

@@ -1,6 +1,5 @@
-use Rattle.std.proofs.Common.{◌≡◌, ◌*◌, ◌≤◌, sum}
-use Rattle.stores.specs.Parts.{lengths}
+use Rattle.std.proofs.Common.{◌≡◌, ◌*◌, ◌≤◌, min, sum_by, take}
 use Rattle.packed.proofs.total.Given as goal
 
-abbrev pub invariant-loop-i : goal.invariant-loop-i
-invariant-loop-i l = (l.sum ≤ l.i * 65536) × (l.sum ≡ sum (lengths l.i l.longest l.table))
+abbrev pub invariant-loop-length : goal.invariant-loop-length
+invariant-loop-length l = (l.sum ≤ l.length-index * 65536) × (l.sum ≡ sum_by (λ x. min x l.longest) (take l.length-index l.table))

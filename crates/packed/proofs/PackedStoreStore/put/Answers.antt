@@ -14,7 +14,7 @@ pub returns-then-string-self : goal.returns-then-string-self
 returns-then-string-self g c =
     let ok = c.in_ok-old.ensures.lies.accepts in
     let is = (pack_inside c.args.self.now c.args.number ok).is in
-    let long : c.args.self.now.longest < length c.args.string.now = omega arith in
+    let long : c.args.self.now.limits.longest < length c.args.string.now = omega arith in
     let refused = put_long _ c.args.number ok c.args.string.now (rw is long) in
     record { answer = rw refused; after = rw refused; named = refl }
 
@@ -30,8 +30,8 @@ returns g c =
     let string = c.args.string.now in
     let found = c.in_ok-old.ensures in
     let ok = found.lies.accepts in
-    let le : length string ≤ self.longest = omega arith in
-    let room : length string ≤ self.most - (c.total-end.result - c.in_ok-old.old.length) = omega arith in
+    let le : length string ≤ self.limits.longest = omega arith in
+    let room : length string ≤ self.limits.most - (c.total-end.result - c.in_ok-old.old.length) = omega arith in
     let accepted = pack_takes self c.args.number ok _ found string _ c.total-end.ensures le room in
-    let leaves = pack_leaves self c.args.number ok _ found string c.make_room.new.area c.write_at.new.area _ _ c.total-end.ensures le room (search rules) c.make_room.auto.area c.make_room.ensures.before c.make_room.ensures.behind c.write_at.ensures refl in
+    let leaves = pack_leaves self c.args.number ok _ found string c.make_room.new.area c.copy_at.new.area _ _ c.total-end.ensures le room (search rules) c.make_room.auto.area c.make_room.ensures.before c.make_room.ensures.behind c.copy_at.ensures refl in
     record { answer = rw accepted; after = rw accepted leaves; named = refl }

@@ -1,7 +1,6 @@
-use Rattle.std.proofs.Common.{length, arith}
+use Rattle.std.proofs.Common.{length, sym, ◌∙◌}
 use Rattle.std.proofs.lemmas.Result.{err_from_is_err_and}
-use Rattle.stores.proofs.Calls.{fetch_refused, fetch_short, fetch_fits}
-use Rattle.stores.proofs.Parts.{lies_length}
+use Rattle.stores.proofs.Calls.{fetch_refused, fetch_copies}
 use Rattle.slots.proofs.SlotStoreStore.fetch.Goals as goal
 
 pub returns-in_err-part : goal.returns-in_err-part
@@ -10,16 +9,8 @@ returns-in_err-part g c =
     let refused = fetch_refused _ c.args.number (length c.args.area.now) _ c.in_err-part.ensures in
     record { answer = rw (p.1, p.2, refused); area = rw refused }
 
-pub returns-then-part-area : goal.returns-then-part-area
-returns-then-part-area g c =
-    let lies = c.in_ok-part.ensures.lies in
-    let long = lies_length _ _ _ _ lies in
-    let refused = fetch_short _ c.args.number lies.accepts (length c.args.area.now) (omega arith) in
-    record { answer = rw refused; area = rw refused }
-
 pub returns : goal.returns
 returns g c =
     let lies = c.in_ok-part.ensures.lies in
-    let long = lies_length _ _ _ _ lies in
-    let accepted = fetch_fits _ c.args.number lies.accepts (length c.args.area.now) (omega arith) in
-    record { answer = rw (accepted, long); area = rw (accepted, lies.string) c.read_part.ensures }
+    let f = fetch_copies _ c.args.number lies.accepts _ c.args.area.now (lies.string ∙ sym c.of.ensures) in
+    record { answer = c.copy_front.ensures.answer ∙ f.0; area = c.copy_front.ensures.area ∙ f.1 }

@@ -25,5 +25,5 @@ returns g c =
     let ok = slot.lies.accepts in
     let le : length c.args.string.now ≤ self.longest = omega arith in
     let accepted = slot_takes self.area.now self.lengths self.names self.longest c.args.number c.args.string.now ok le in
-    let leaves = slot_leaves self.area.now self.lengths self.names self.longest c.write_at.new.area _ c.args.number c.args.string.now ok le (search rules) (rw slot.starts at c.write_at.ensures) refl in
+    let leaves = slot_leaves self.area.now self.lengths self.names self.longest c.copy_at.new.area _ c.args.number c.args.string.now ok le (search rules) (rw slot.starts at c.copy_at.ensures) refl in
     record { answer = rw accepted; after = rw accepted leaves; named = refl }

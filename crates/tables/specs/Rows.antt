@@ -5,6 +5,8 @@ use Rattle.tables.specs.declared.row.Item.{Item}
 use Rattle.tables.specs.declared.row.Item.TheVariants.{Operand as operand, Variable}
 use Rattle.tables.specs.declared.row.Operand.{Operand}
 use Rattle.tables.specs.declared.row.Pattern.{Pattern}
+use Rattle.tables.specs.declared.row.Reference.{Reference}
+use Rattle.tables.specs.declared.row.Reference.TheVariants.{Named, Through}
 use Rattle.tables.specs.declared.row.RightSide.{RightSide}
 use Rattle.tables.specs.declared.row.RowOf.{RowOf}
 
@@ -19,6 +21,11 @@ items_in pattern = take pattern.count pattern.items
 -- the operands of a right side
 abbrev pub operands_in : RightSide → List Operand
 operands_in side = take side.count side.operands
+
+-- the number of the name that a reference has
+abbrev pub number_in : Reference → ℕ
+number_in (Named k) = k
+number_in (Through k) = k
 
 -- whether an element is a variable with the name of number k
 abbrev pub is_variable : ℕ → Item → Bool

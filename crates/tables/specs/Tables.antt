@@ -1,5 +1,5 @@
 -- What the tables of a sheet tell. Assumes nothing.
-use Rattle.std.specs.Prelude.{List, take}
+use Rattle.std.specs.Prelude.{ℕ, Bool, ◌&&◌, nat_le, List, take}
 use Rattle.tables.specs.Rows.{Row}
 use Rattle.tables.specs.declared.sheet.Counts.{Counts}
 use Rattle.tables.specs.declared.listing.Listing.{Listing}
@@ -10,6 +10,10 @@ use Rattle.tables.specs.declared.sheet.Tables.{Tables}
 -- how many statements, constant symbols and names a sheet has
 abbrev pub counts : Sheet → Counts
 counts sheet = record { statements = sheet.statements; constants = sheet.constants; names = sheet.names.count }
+
+-- k is one of n numbers, counted from 1
+abbrev pub numbered : ℕ → ℕ → Bool
+numbered n k = nat_le 1 k && nat_le k n
 
 -- what carrying out a statement reads of a sheet: its names, its statements, its constants
 pub record Tabled (X : Type 0) : Type 0 where

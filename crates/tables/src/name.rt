@@ -4,13 +4,14 @@ ghost use Rattle.std.specs.List.{flat_map};
 ghost use Rattle.std.specs.Char.{encode_utf8};
 ghost use Rattle.tables.specs.Lookups.{spelling};
 
+use crate::limits::LONGEST_NAME;
 use crate::places::first_places;
 use std::fmt;
 
 // A name or a label of up to 16 characters. The letters past its length are 0.
 #[derive(Clone, Copy, PartialEq, Eq, Debug)]
 pub struct Name {
-    pub letters: [u8; 16],
+    pub letters: [u8; LONGEST_NAME],
     pub length: usize,
 }
 

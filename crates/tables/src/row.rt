@@ -1,8 +1,9 @@
 // A statement as a row: numbers of names count from 1, and constants are parts of one area of symbols.
 ghost use Rattle.std.specs.Prelude.{◌≡◌, Some};
-ghost use Rattle.tables.specs.Rows.{items_in, operands_in, is_variable};
+ghost use Rattle.tables.specs.Rows.{items_in, operands_in, number_in, is_variable};
 ghost use Rattle.tables.specs.Words.{reference_words, operand_words, variable_words, item_words, next_words, target_words};
 
+use crate::limits::{MOST_ELEMENTS, MOST_OPERANDS};
 use crate::name::Name;
 use crate::places::first_places;
 use std::fmt;
@@ -12,6 +13,17 @@ use std::fmt;
 pub enum Reference {
     Named(usize),
     Through(usize),
+}
+
+impl Reference {
+    // The number of the name itself, whether the name is meant or what it contains.
+    pub fn number(self) -> usize
+        ensures { result ≡ number_in self }
+    {
+        match self {
+            Reference::Named(number) | Reference::Through(number) => number,
+        }
+    }
 }
 
 impl fmt::Display for Reference {
@@ -140,7 +152,7 @@ impl fmt::Display for Target {
 // The pattern of a statement: its elements, in the first places.
 #[derive(Clone, Copy, PartialEq, Eq, Debug)]
 pub struct Pattern {
-    pub items: [Item; 8],
+    pub items: [Item; MOST_ELEMENTS],
     pub count: usize,
 }
 
@@ -156,7 +168,7 @@ impl Pattern {
 // The right side of a statement: its operands, in the first places.
 #[derive(Clone, Copy, PartialEq, Eq, Debug)]
 pub struct RightSide {
-    pub operands: [Operand; 8],
+    pub operands: [Operand; MOST_OPERANDS],
     pub count: usize,
 }
 

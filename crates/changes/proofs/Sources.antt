@@ -5,7 +5,8 @@ use Rattle.std.specs.Option.{option_or, option_map, option_eq}
 use Rattle.std.proofs.lemmas.List.{drop_more, drop_all}
 use Rattle.placings.specs.Pattern.{part}
 use Rattle.tables.specs.declared.row.Item.{Item}
-use Rattle.changes.specs.Sources.{is_variable, last_part, is_reference}
+use Rattle.tables.specs.Rows.{is_variable}
+use Rattle.changes.specs.Sources.{last_part, is_reference}
 
 pub reference_is : (o : Option ℕ) (k : ℕ) → option_eq eqb o (Some k) ≡ is_reference o k
 reference_is None k = refl

@@ -11,7 +11,8 @@ use Rattle.stores.proofs.Puts.{under_with}
 use Rattle.tables.specs.declared.row.Item.{Item}
 use Rattle.tables.specs.declared.row.Item.TheVariants.{Operand, Variable}
 use Rattle.changes.specs.Success.{Success, Numbered, Referred, Sound}
-use Rattle.changes.specs.Sources.{is_variable, last_part, is_reference, new_string, OneSource}
+use Rattle.tables.specs.Rows.{is_variable}
+use Rattle.changes.specs.Sources.{last_part, is_reference, new_string, OneSource}
 use Rattle.changes.specs.Passes.{with_strings}
 use Rattle.changes.specs.Written.{takes, named, renewed, written}
 

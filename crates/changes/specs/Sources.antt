@@ -6,13 +6,8 @@ use Rattle.placings.specs.Pattern.{part}
 use Rattle.stores.specs.Names.{Names, under}
 use Rattle.stores.specs.Puts.{put_or}
 use Rattle.tables.specs.declared.row.Item.{Item}
-use Rattle.tables.specs.declared.row.Item.TheVariants.{Operand, Variable}
+use Rattle.tables.specs.Rows.{is_variable}
 use Rattle.changes.specs.Success.{Success}
-
--- whether an element is a variable of the name k
-abbrev pub is_variable : ℕ → Item → Bool
-is_variable k (Operand o) = false
-is_variable k (Variable v) = v.name == k
 
 -- the part of the last variable of the name k, if there is one
 unfoldable pub last_part : {X : Type 0} → List X → ℕ → ℕ → List Item → List ℕ → Option (List X)

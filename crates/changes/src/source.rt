@@ -2,19 +2,9 @@
 ghost use Rattle.std.specs.Prelude.{◌≡◌};
 ghost use Rattle.std.specs.Option.{option_copied};
 ghost use Rattle.changes.specs.Told.{told};
-ghost use Rattle.changes.specs.Sources.{is_variable, last_part, new_string};
+ghost use Rattle.changes.specs.Sources.{last_part, new_string};
 
 use crate::success::Success;
-use tables::row::Item;
-
-fn is_variable(item: Item, name: usize) -> bool
-    ensures { result ≡ is_variable name item }
-{
-    match item {
-        Item::Operand(_) => false,
-        Item::Variable(variable) => variable.name == name,
-    }
-}
 
 impl<'a, T> Success<'a, T> {
     // The part of the last variable of a name.
@@ -26,7 +16,7 @@ impl<'a, T> Success<'a, T> {
         for (i, item) in self.items.iter().enumerate() {
             let to = self.ends[i];
             let part = &self.subject[from..to];
-            found = is_variable(*item, name).then_some(part).or(found);
+            found = item.is_variable_of(name).then_some(part).or(found);
             from = to;
         }
         found

@@ -1,7 +1,8 @@
 -- The nearest variable of a name, one item after the other. Assumes nothing.
 use Rattle.std.proofs.Common.{◌≡◌, ℕ, zero, suc, ◌<◌, Bool, true, false, List, [], ◌∷◌, length, get_or, Some, None, Option, sym, refl, ap, arith}
 use Rattle.tables.specs.declared.row.Item.{Item}
-use Rattle.patterns.specs.Nearest.{is_variable, further, nearest}
+use Rattle.tables.specs.Rows.{is_variable}
+use Rattle.patterns.specs.Nearest.{further, nearest}
 
 -- none of the items is a variable of the name
 pub nearest_none : (k : ℕ) (items : List Item) → ((j : ℕ) (d : Item) → j < length items → is_variable k (get_or items j d) ≡ false) → None ≡ nearest k items

@@ -5,6 +5,7 @@ ghost use Rattle.patterns.specs.Gathered.{pattern_number, elements_in};
 use scan::element::Element;
 use std::error::Error;
 use std::fmt;
+use tables::places::first_places;
 
 // The elements of a pattern, in the first places.
 #[derive(Clone, Copy)]
@@ -18,8 +19,7 @@ impl Gathered {
     pub fn elements(&self) -> &[Element]
         ensures { result.now ≡ elements_in self.now }
     {
-        let count = self.count.min(8);
-        &self.elements[0..count]
+        first_places(&self.elements, self.count)
     }
 }
 

@@ -9,8 +9,8 @@ use crate::strings::{Strings, contents};
 use symbols::kind::Kind;
 use symbols::text::write_text;
 use tables::lookup::find_name;
+use tables::listing::Listing;
 use tables::row::Reference;
-use tables::sheet::NameTable;
 
 // What a look-up finds under the characters of symbols; nothing under more characters than a name may have.
 pub fn spelled_by<K: Kind, A, F: FnOnce(&[u8]) -> Option<A>>(
@@ -27,28 +27,27 @@ pub fn spelled_by<K: Kind, A, F: FnOnce(&[u8]) -> Option<A>>(
 }
 
 // The number of the name that the characters of symbols spell, if the sheet has it.
-pub fn named_by<K: Kind>(kind: &K, table: &NameTable, symbols: &[K::Symbol]) -> Option<usize>
-    ensures { result ≡ named_by K.Kind.chars table.now symbols.now }
+pub fn named_by<K: Kind>(listing: Listing<K>, symbols: &[K::Symbol]) -> Option<usize>
+    ensures { result ≡ named_by K.Kind.chars listing.entry.names.now symbols.now }
 {
-    spelled_by(kind, symbols, |chars| find_name(table, chars))
+    spelled_by(listing.kind, symbols, |chars| find_name(listing.names, chars))
 }
 
 // The number of the name that a reference means under the strings that can be read; the area takes what `$` reads.
 pub fn meant_by<K: Kind, R: Strings<Symbol = K::Symbol>>(
-    kind: &K,
-    table: &NameTable,
+    listing: Listing<K>,
     strings: &R,
     reference: Reference,
     area: &mut [K::Symbol],
 ) -> Option<usize>
     requires { (k : ℕ) → length (under (R.Strings.names strings.now) k) ≤ length area.old }
-    ensures { result ≡ meant K.Kind.chars table.now (R.Strings.names strings.now) reference }
+    ensures { result ≡ meant K.Kind.chars listing.entry.names.now (R.Strings.names strings.now) reference }
 {
     match reference {
         Reference::Named(number) => Some(number),
         Reference::Through(number) => {
             let length = contents(strings, number, area);
-            named_by(kind, table, &area[0..length])
+            named_by(listing, &area[0..length])
         }
     }
 }

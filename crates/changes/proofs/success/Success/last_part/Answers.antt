@@ -19,7 +19,7 @@ loop-i-preserved g c =
     let i = c.loop-i.i in
     let success = c.args.self.now in
     let lt : i < length success.ends.now = omega (arith, success.placed.whole, c.loop-i-test.true) in
-    let found = found_more (λ s. s.now) _ _ _ _ _ _ c.or-found.ensures c.then_some.ensures c.is_variable.ensures in
+    let found = found_more (λ s. s.now) _ _ _ _ _ _ c.or-found.ensures c.then_some.ensures c.is_variable_of.ensures in
     let more = last_more success.subject.now c.args.name c.loop-i.from i success.items.now success.ends.now _ (option_copied c.loop-i.found) c.loop-i-test.true lt in (
       sym (ap (λ n. get_or (places (told success)) n 0) (add-one i)),
       ap (option_or (last_part success.subject.now c.args.name (get_or success.ends.now i 0) (drop (i + 1) success.items.now) (drop (i + 1) success.ends.now))) found ∙ sym more ∙ c.loop-i.invariant.1,

@@ -3,14 +3,14 @@ use Rattle.std.proofs.Common.{◌≡◌, ℕ, ◌<◌, ◌≤◌, Bool, true, eq
 use Rattle.std.proofs.ByRecursion.{All-get_or}
 use Rattle.std.proofs.lemmas.List.{get_or-take, length-take-le}
 use Rattle.std.proofs.lemmas.Bool.Decides.{Decides-and, Decides-at, Decides-like, Decides-eqb}
-use Rattle.std.specs.List.{AllByRecursion}
+use Rattle.std.specs.List.{AllByRecursion, list_all}
 use Rattle.tables.specs.Lookups.{names_in}
 use Rattle.tables.specs.Tables.{counts}
 use Rattle.tables.specs.Rows.{Row}
 use Rattle.tables.specs.declared.sheet.Counts.{Counts}
 use Rattle.tables.specs.declared.sheet.Sheet.{Sheet}
-use Rattle.checks.specs.Limits.{most_statements, most_names, most_constants}
-use Rattle.checks.specs.Fits.{every, next_fits, name_fits, row_fits, within_limits, same_counts, admits}
+use Rattle.tables.specs.Limits.{most_statements, most_names, most_constants}
+use Rattle.checks.specs.Fits.{next_fits, name_fits, row_fits, within_limits, same_counts, admits}
 use Rattle.checks.specs.Sound.{Sound-next, Short, Sound-row, Admitted}
 use Rattle.checks.proofs.Sound.{decides_leb, decides_every, decides_short, decides_next, decides_row, sound_row_more}
 
@@ -53,8 +53,8 @@ module _ (names : ℕ) (opened : Counts) (sheet : Sheet) (rows : List Row) (room
       Decides-and (leb sheet.names.count names) _ (decides_leb sheet.names.count names)
       (Decides-and (same_counts opened (counts sheet)) _ (decides_same opened (counts sheet))
       (Decides-and (within_limits (counts sheet) (length rows) room) _ decides_limited
-      (Decides-and (every name_fits (names_in sheet.names)) _ (decides_every name_fits Short decides_short (names_in sheet.names))
-      (Decides-and (next_fits (counts sheet) sheet.start) (every (row_fits (counts sheet)) (take sheet.statements rows)) (decides_next (counts sheet) sheet.start)
+      (Decides-and (list_all name_fits (names_in sheet.names)) _ (decides_every name_fits Short decides_short (names_in sheet.names))
+      (Decides-and (next_fits (counts sheet) sheet.start) (list_all (row_fits (counts sheet)) (take sheet.statements rows)) (decides_next (counts sheet) sheet.start)
       (decides_every (row_fits (counts sheet)) (Sound-row sheet.names.count sheet.statements sheet.constants) (decides_row (counts sheet)) (take sheet.statements rows))))))
 
   row_sound : sheet.names.count ≤ names → sheet.statements ≤ length rows → Sound-rows → (k : ℕ) (d : Row) → k < sheet.statements → Sound-row names sheet.statements sheet.constants (get_or rows k d)

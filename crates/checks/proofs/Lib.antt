@@ -1,3 +1,2 @@
-pub mod Every
 pub mod Sound
 pub mod Admitted

@@ -1,10 +1,11 @@
 -- The tests of rows decide what holds of them; what holds for some names holds for more. Assumes nothing.
-use Rattle.std.proofs.Common.{ℕ, ◌≤◌, Bool, true, leb, List, take, Some, None, Decides, Option, refl, arith}
+use Rattle.std.proofs.Common.{ℕ, ◌≤◌, Bool, true, leb, List, Some, None, Decides, Option, refl, arith}
 use Rattle.std.proofs.ByRecursion.{All-weaker, Decides-by_and}
 use Rattle.std.proofs.lemmas.Bool.{leb-true, le-leb}
 use Rattle.std.proofs.lemmas.Bool.Decides.{Decides-and, Decides-like}
-use Rattle.std.specs.List.{AllByRecursion}
-use Rattle.tables.specs.Limits.{longest_name}
+use Rattle.std.specs.List.{AllByRecursion, list_all}
+use Rattle.tables.specs.Rows.{items_in, operands_in, number_in}
+use Rattle.tables.specs.Tables.{numbered}
 use Rattle.tables.specs.declared.name.Name.{Name}
 use Rattle.tables.specs.declared.row.Form.{Form}
 use Rattle.tables.specs.declared.row.Form.TheVariants.{Arbitrary, Balanced, Fixed}
@@ -21,8 +22,8 @@ use Rattle.tables.specs.declared.row.Target.{Target}
 use Rattle.tables.specs.declared.row.Target.TheVariants.{To, Through}
 use Rattle.tables.specs.declared.sheet.Counts.{Counts}
 use Rattle.changes.specs.Success.{In, Numbered}
-use Rattle.checks.specs.Limits.{most_elements, most_operands, longest_part}
-use Rattle.checks.specs.Fits.{every, if_given, numbered, number_in, reference_fits, operand_fits, form_fits, item_fits, next_fits, target_fits, pattern_fits, side_fits, name_fits, row_fits}
+use Rattle.tables.specs.Limits.{most_elements, most_operands, longest_part, longest_name}
+use Rattle.checks.specs.Fits.{if_given, reference_fits, operand_fits, form_fits, item_fits, next_fits, target_fits, pattern_fits, side_fits, name_fits, row_fits}
 use Rattle.checks.specs.Sound.{Given, Sound-operand, Sound-form, Sound-item, Sound-side, Sound-next, Sound-target, Short, Sound-row}
 
 pub decides_leb : (a b : ℕ) → Decides (leb a b) (a ≤ b)
@@ -33,9 +34,8 @@ decides_always : Decides true (Unit {0})
 decides_always = (λ _. tt, λ _. refl)
 
 module _ {A : Type 0} (test : A → Bool) (P : A → Type 0) (each : (x : A) → Decides (test x) (P x)) where
-  pub decides_every : (xs : List A) → Decides (every test xs) (AllByRecursion P xs)
-  unfolding every
-  decides_every xs = Decides-by_and test P (every test) each refl (λ _ _. refl) xs
+  pub decides_every : (xs : List A) → Decides (list_all test xs) (AllByRecursion P xs)
+  decides_every xs = Decides-by_and test P (list_all test) each refl (λ _ _. refl) xs
 
   decides_given : (o : Option A) → Decides (if_given test o) (Given P o)
   decides_given None = decides_always
@@ -69,11 +69,11 @@ module _ (c : Counts) where
   decides_target (To next) = decides_next next
   decides_target (Through k) = decides_numbered c.names k
 
-  decides_pattern : (p : Pattern) → Decides (pattern_fits c p) ((p.count ≤ most_elements) × AllByRecursion (Sound-item c.names c.constants) (take p.count p.items))
-  decides_pattern p = Decides-and (leb p.count most_elements) (every (item_fits c) (take p.count p.items)) (decides_leb p.count most_elements) (decides_every (item_fits c) (Sound-item c.names c.constants) decides_item (take p.count p.items))
+  decides_pattern : (p : Pattern) → Decides (pattern_fits c p) ((p.count ≤ most_elements) × AllByRecursion (Sound-item c.names c.constants) (items_in p))
+  decides_pattern p = Decides-and (leb p.count most_elements) (list_all (item_fits c) (items_in p)) (decides_leb p.count most_elements) (decides_every (item_fits c) (Sound-item c.names c.constants) decides_item (items_in p))
 
   decides_side : (s : RightSide) → Decides (side_fits c s) (Sound-side c.names c.constants s)
-  decides_side s = Decides-and (leb s.count most_operands) (every (operand_fits c) (take s.count s.operands)) (decides_leb s.count most_operands) (decides_every (operand_fits c) (Sound-operand c.names c.constants) decides_operand (take s.count s.operands))
+  decides_side s = Decides-and (leb s.count most_operands) (list_all (operand_fits c) (operands_in s)) (decides_leb s.count most_operands) (decides_every (operand_fits c) (Sound-operand c.names c.constants) decides_operand (operands_in s))
 
 -- a sound variable has one of the names
 item_numbered : (n c : ℕ) (i : Item) → Sound-item n c i → Numbered n i
@@ -88,7 +88,7 @@ decides_row c row =
       reference = h.1.0;
       elements = h.1.1.0.0;
       items = h.1.1.0.1;
-      variables = All-weaker (Sound-item c.names c.constants) (Numbered c.names) (item_numbered c.names c.constants) (take row.pattern.count row.pattern.items) h.1.1.0.1;
+      variables = All-weaker (Sound-item c.names c.constants) (Numbered c.names) (item_numbered c.names c.constants) (items_in row.pattern) h.1.1.0.1;
       operands = h.1.1.1.0;
       success = h.1.1.1.1.0;
       failure = h.1.1.1.1.1;
@@ -118,7 +118,7 @@ module _ (n m : ℕ) (more : n ≤ m) where
   item_more c (variable v) h = (in_more v.name h.0, h.1)
 
   side_more : (c : ℕ) (s : RightSide) → Sound-side n c s → Sound-side m c s
-  side_more c s h = (h.0, All-weaker (Sound-operand n c) (Sound-operand m c) (operand_more c) (take s.count s.operands) h.1)
+  side_more c s h = (h.0, All-weaker (Sound-operand n c) (Sound-operand m c) (operand_more c) (operands_in s) h.1)
 
   target_more : (s : ℕ) (t : Target) → Sound-target n s t → Sound-target m s t
   target_more s (To next) h = h
@@ -134,8 +134,8 @@ module _ (n m : ℕ) (more : n ≤ m) where
         label = h.label;
         reference = in_more (number_in row.reference) h.reference;
         elements = h.elements;
-        items = All-weaker (Sound-item n c) (Sound-item m c) (item_more c) (take row.pattern.count row.pattern.items) h.items;
-        variables = All-weaker (Numbered n) (Numbered m) numbered_more (take row.pattern.count row.pattern.items) h.variables;
+        items = All-weaker (Sound-item n c) (Sound-item m c) (item_more c) (items_in row.pattern) h.items;
+        variables = All-weaker (Numbered n) (Numbered m) numbered_more (items_in row.pattern) h.variables;
         operands = given_more (Sound-side n c) (Sound-side m c) (side_more c) row.right_side h.operands;
         success = given_more (Sound-target n s) (Sound-target m s) (target_more s) row.on_success h.success;
         failure = given_more (Sound-target n s) (Sound-target m s) (target_more s) row.on_failure h.failure;

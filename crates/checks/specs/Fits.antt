@@ -1,8 +1,10 @@
 -- Whether tables fit the counts of their sheet and the limits of a sheet. Assumes nothing.
-use Rattle.std.specs.Prelude.{ℕ, Bool, true, ◌&&◌, List, [], ◌∷◌, length, take, Some, None, Option, ◌==◌, nat_le}
-use Rattle.tables.specs.Limits.{longest_name}
+use Rattle.std.specs.Prelude.{ℕ, Bool, true, ◌&&◌, List, length, take, Some, None, Option, ◌==◌, nat_le}
 use Rattle.tables.specs.Lookups.{names_in}
+use Rattle.tables.specs.Rows.{items_in, operands_in}
+pub use Rattle.tables.specs.Rows.{number_in}
 use Rattle.tables.specs.Tables.{counts}
+pub use Rattle.tables.specs.Tables.{numbered}
 use Rattle.tables.specs.declared.name.Name.{Name}
 use Rattle.tables.specs.declared.row.Form.{Form}
 use Rattle.tables.specs.declared.row.Form.TheVariants.{Arbitrary, Balanced, Fixed}
@@ -14,33 +16,19 @@ use Rattle.tables.specs.declared.row.Operand.{Operand}
 use Rattle.tables.specs.declared.row.Operand.TheVariants.{Literal, Contents}
 use Rattle.tables.specs.declared.row.Pattern.{Pattern}
 use Rattle.tables.specs.declared.row.Reference.{Reference}
-use Rattle.tables.specs.declared.row.Reference.TheVariants.{Named, Through}
 use Rattle.tables.specs.declared.row.RightSide.{RightSide}
 use Rattle.tables.specs.Rows.{Row}
 use Rattle.tables.specs.declared.row.Target.{Target}
 use Rattle.tables.specs.declared.row.Target.TheVariants.{To, Through as through}
 use Rattle.tables.specs.declared.sheet.Counts.{Counts}
 use Rattle.tables.specs.declared.sheet.Sheet.{Sheet}
-use Rattle.checks.specs.Limits.{most_statements, most_names, most_constants, most_elements, most_operands, longest_part}
-
--- every one passes the test
-unfoldable pub every : {A : Type 0} → (A → Bool) → List A → Bool
-every test [] = true
-every test (x ∷ xs) = test x && every test xs
+use Rattle.std.specs.List.{list_all}
+use Rattle.tables.specs.Limits.{most_statements, most_names, most_constants, most_elements, most_operands, longest_part, longest_name}
 
 -- what may be absent passes the test where it is given
 abbrev pub if_given : {A : Type 0} → (A → Bool) → Option A → Bool
 if_given test None = true
 if_given test (Some x) = test x
-
--- k is one of n numbers, counted from 1
-abbrev pub numbered : ℕ → ℕ → Bool
-numbered n k = nat_le 1 k && nat_le k n
-
--- the number of the name that a reference has
-abbrev pub number_in : Reference → ℕ
-number_in (Named k) = k
-number_in (Through k) = k
 
 -- a reference has a name of the sheet
 abbrev pub reference_fits : Counts → Reference → Bool
@@ -74,11 +62,11 @@ target_fits c (through k) = numbered c.names k
 
 -- a pattern has at most eight elements, and all fit
 abbrev pub pattern_fits : Counts → Pattern → Bool
-pattern_fits c p = nat_le p.count most_elements && every (item_fits c) (take p.count p.items)
+pattern_fits c p = nat_le p.count most_elements && list_all (item_fits c) (items_in p)
 
 -- a right side has at most eight operands, and all fit
 abbrev pub side_fits : Counts → RightSide → Bool
-side_fits c s = nat_le s.count most_operands && every (operand_fits c) (take s.count s.operands)
+side_fits c s = nat_le s.count most_operands && list_all (operand_fits c) (operands_in s)
 
 -- a name or a label is not too long
 abbrev pub name_fits : Name → Bool
@@ -94,7 +82,7 @@ within_limits c rows room = nat_le c.statements most_statements && (nat_le c.nam
 
 -- a sheet fits its rows and so many symbols of constants: its counts, its names, its start and every statement
 abbrev pub sheet_fits : Sheet → List Row → ℕ → Bool
-sheet_fits sheet rows room = within_limits (counts sheet) (length rows) room && (every name_fits (names_in sheet.names) && (next_fits (counts sheet) sheet.start && every (row_fits (counts sheet)) (take sheet.statements rows)))
+sheet_fits sheet rows room = within_limits (counts sheet) (length rows) room && (list_all name_fits (names_in sheet.names) && (next_fits (counts sheet) sheet.start && list_all (row_fits (counts sheet)) (take sheet.statements rows)))
 
 -- two sheets have the same counts
 abbrev pub same_counts : Counts → Counts → Bool

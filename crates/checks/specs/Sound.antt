@@ -1,8 +1,8 @@
 -- What holds of tables that may be worked with. Assumes nothing.
 use Rattle.std.specs.Prelude.{◌≡◌, ℕ, ◌<◌, ◌≤◌, List, length, take, Some, None, Option, slice_index_or}
 use Rattle.std.specs.List.{AllByRecursion}
-use Rattle.tables.specs.Limits.{longest_name}
 use Rattle.tables.specs.Lookups.{names_in}
+use Rattle.tables.specs.Rows.{items_in, operands_in, number_in}
 use Rattle.tables.specs.Tables.{counts}
 use Rattle.tables.specs.declared.name.Name.{Name}
 use Rattle.tables.specs.declared.row.Form.{Form}
@@ -20,8 +20,7 @@ use Rattle.tables.specs.declared.row.Target.TheVariants.{To, Through}
 use Rattle.tables.specs.declared.sheet.Counts.{Counts}
 use Rattle.tables.specs.declared.sheet.Sheet.{Sheet}
 use Rattle.changes.specs.Success.{In, Numbered}
-use Rattle.checks.specs.Limits.{most_statements, most_names, most_constants, most_elements, most_operands, longest_part}
-use Rattle.checks.specs.Fits.{number_in}
+use Rattle.tables.specs.Limits.{most_statements, most_names, most_constants, most_elements, most_operands, longest_part, longest_name}
 
 -- what may be absent is so where it is given
 abbrev pub Given : {A : Type 0} → (A → Type 0) → Option A → Type 0
@@ -46,7 +45,7 @@ Sound-item n c (variable v) = In n v.name × Sound-form v.form
 
 -- at most eight operands, all sound
 abbrev pub Sound-side : ℕ → ℕ → RightSide → Type 0
-Sound-side n c side = (side.count ≤ most_operands) × AllByRecursion (Sound-operand n c) (take side.count side.operands)
+Sound-side n c side = (side.count ≤ most_operands) × AllByRecursion (Sound-operand n c) (operands_in side)
 
 -- one of s statements comes next, or END
 abbrev pub Sound-next : ℕ → Next → Type 0
@@ -67,8 +66,8 @@ pub record Sound-row (n s c : ℕ) (row : Row) : Type 0 where
   pub label : Given Short row.label
   pub reference : In n (number_in row.reference)
   pub elements : row.pattern.count ≤ most_elements
-  pub items : AllByRecursion (Sound-item n c) (take row.pattern.count row.pattern.items)
-  pub variables : AllByRecursion (Numbered n) (take row.pattern.count row.pattern.items)
+  pub items : AllByRecursion (Sound-item n c) (items_in row.pattern)
+  pub variables : AllByRecursion (Numbered n) (items_in row.pattern)
   pub operands : Given (Sound-side n c) row.right_side
   pub success : Given (Sound-target n s) row.on_success
   pub failure : Given (Sound-target n s) row.on_failure

@@ -1,7 +1,8 @@
 // What is checked against the counts of a sheet.
 ghost use Rattle.std.specs.Prelude.{◌≡◌, Bool};
+ghost use Rattle.std.specs.List.{list_all};
 ghost use Rattle.tables.specs.declared.sheet.Counts.{Counts};
-ghost use Rattle.checks.specs.Fits.{every, if_given};
+ghost use Rattle.checks.specs.Fits.{if_given};
 
 use tables::sheet::Counts;
 
@@ -17,21 +18,13 @@ impl<T: Fit> Fit for Option<T> {
     ghost fitting = { λ counts given. if_given (T.Fit.fitting counts) given };
 
     fn fits(&self, counts: Counts) -> bool {
-        match self {
-            Some(given) => given.fits(counts),
-            None => true,
-        }
+        self.as_ref().is_none_or(|given| given.fits(counts))
     }
 }
 
 // Whether all of them fit.
 pub fn all_fit<T: Fit>(parts: &[T], counts: Counts) -> bool
-    ensures { result ≡ every (T.Fit.fitting counts) parts.now }
+    ensures { result ≡ list_all (T.Fit.fitting counts) parts.now }
 {
-    for i in 0..parts.len() {
-        if !parts[i].fits(counts) {
-            return false;
-        }
-    }
-    true
+    parts.iter().all(|part| part.fits(counts))
 }

@@ -3,7 +3,6 @@
 
 pub mod admit;
 pub mod fit;
-pub mod limits;
 mod operand;
 mod pattern;
 mod row;

@@ -3,7 +3,7 @@ ghost use Rattle.std.specs.Prelude.{◌≡◌};
 ghost use Rattle.checks.specs.Fits.{name_fits, row_fits};
 
 use crate::fit::Fit;
-use crate::limits::LONGEST_NAME;
+use tables::limits::LONGEST_NAME;
 use tables::name::Name;
 use tables::row::Row;
 use tables::sheet::Counts;

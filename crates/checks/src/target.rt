@@ -3,7 +3,6 @@ ghost use Rattle.std.specs.Prelude.{◌≡◌};
 ghost use Rattle.checks.specs.Fits.{next_fits, target_fits};
 
 use crate::fit::Fit;
-use crate::operand::is_numbered;
 use tables::row::{Next, Target};
 use tables::sheet::Counts;
 
@@ -12,7 +11,7 @@ impl Fit for Next {
 
     fn fits(&self, counts: Counts) -> bool {
         match self {
-            Next::Statement(number) => is_numbered(counts.statements, *number),
+            Next::Statement(number) => counts.has_statement(*number),
             Next::End => true,
         }
     }
@@ -24,7 +23,7 @@ impl Fit for Target {
     fn fits(&self, counts: Counts) -> bool {
         match self {
             Target::To(next) => next.fits(counts),
-            Target::Through(number) => is_numbered(counts.names, *number),
+            Target::Through(number) => counts.has_name(*number),
         }
     }
 }

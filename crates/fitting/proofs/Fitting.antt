@@ -1,6 +1,6 @@
 -- What a load wrote may be worked with. Assumes nothing.
 use Rattle.std.proofs.Common.{◌≡◌, ℕ, ◌≤◌, min, Bool, true, false, cond, ◌||◌, eqb, ltb, leb, List, [], ◌∷◌, map, length, take, drop, Some, None, Option, Result, sym, refl, subst, arith}
-use Rattle.std.specs.List.{AllByRecursion}
+use Rattle.std.specs.List.{AllByRecursion, list_all}
 use Rattle.std.proofs.ByRecursion.{All-take, All-map}
 use Rattle.std.proofs.lemmas.List.{length-append, take-append-le}
 use Rattle.std.proofs.lemmas.Bool.{le-leb, eq-eqb, ltb-false, and_from}
@@ -26,7 +26,7 @@ use Rattle.rows.specs.Names.{name_of}
 use Rattle.load.specs.Names.{name_table}
 use Rattle.load.specs.Tables.{sheet_rows, sheet_of}
 use Rattle.rows.proofs.RowCounts.{accepted_rows}
-use Rattle.checks.specs.Fits.{every, name_fits, next_fits, row_fits, within_limits, same_counts, sheet_fits, admits}
+use Rattle.checks.specs.Fits.{name_fits, next_fits, row_fits, within_limits, same_counts, sheet_fits, admits}
 use Rattle.checks.specs.Sound.{Short, Sound-next, Sound-row}
 use Rattle.checks.proofs.Sound.{decides_every, decides_short, decides_next, decides_row}
 use Rattle.fitting.specs.Fitting.{Loaded-fits, Loaded-admitted}
@@ -118,8 +118,8 @@ module _ {X : Type 0} (meant : List ℕ → Option X) (wide : ℕ) (text : List 
   fits : sheet_fits sheet (over written rows) room ≡ true
   fits =
       and_from (within_limits (Counts-of sheet) (length (over written rows)) room) _ limited
-      (and_from (every name_fits (names_in sheet.names)) _ ((decides_every name_fits Short decides_short (names_in sheet.names)).1 (names_short n.names))
-      (and_from (next_fits (Counts-of sheet) sheet.start) (every (row_fits (Counts-of sheet)) (take sheet.statements (over written rows)))
+      (and_from (list_all name_fits (names_in sheet.names)) _ ((decides_every name_fits Short decides_short (names_in sheet.names)).1 (names_short n.names))
+      (and_from (next_fits (Counts-of sheet) sheet.start) (list_all (row_fits (Counts-of sheet)) (take sheet.statements (over written rows)))
       ((decides_next (Counts-of sheet) sheet.start).1 start_fits)
       ((decides_every (row_fits (Counts-of sheet)) (Sound-row sheet.names.count sheet.statements sheet.constants) (decides_row (Counts-of sheet)) (take sheet.statements (over written rows))).1 taken_fit)))
 

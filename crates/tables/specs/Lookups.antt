@@ -1,5 +1,6 @@
 -- Looking up names and labels: the first row that has the name, and absent if none has it. Assumes nothing.
-use Rattle.std.specs.Prelude.{◌≡◌, ℕ, suc, ◌-◌, ◌<◌, ◌≤◌, Bool, true, false, cond, List, [], ◌∷◌, length, take, Some, None, codes, Option, slice_index_or}
+use Rattle.std.specs.Prelude.{◌≡◌, ℕ, ◌-◌, ◌<◌, ◌≤◌, Bool, true, false, cond, List, length, take, Some, None, codes, Option, slice_index_or}
+use Rattle.std.specs.List.{position_from}
 use Rattle.std.specs.Option.{option_map}
 use Rattle.std.specs.Str.{bytes_eq}
 use Rattle.tables.specs.declared.name.Name.{Name}
@@ -20,14 +21,9 @@ spelled chars name = bytes_eq (spelling name) chars
 abbrev pub names_in : NameTable → List Name
 names_in table = take table.count table.names
 
--- the number of the first that passes a test, where the first of all has number k
-unfoldable pub number_from : {A : Type 0} → (A → Bool) → ℕ → List A → Option ℕ
-number_from test k [] = None
-number_from test k (x ∷ xs) = cond (test x) (Some k) (number_from test (suc k) xs)
-
 -- the number of a name in a table, counted from 1
 abbrev pub name_number : NameTable → List ℕ → Option ℕ
-name_number table chars = number_from (spelled chars) 1 (names_in table)
+name_number table chars = position_from (spelled chars) 1 (names_in table)
 
 -- whether a label is there and has these characters
 abbrev pub label_spelled : List ℕ → Option Name → Bool
@@ -36,7 +32,7 @@ label_spelled chars (Some name) = spelled chars name
 
 -- the number of the statement that has a label, counted from 1
 abbrev pub label_number : List Row → List ℕ → Option ℕ
-label_number rows chars = number_from (λ (row : Row). label_spelled chars row.label) 1 rows
+label_number rows chars = position_from (λ (row : Row). label_spelled chars row.label) 1 rows
 
 -- where a label leads: END to the end, every other to the statement that has it
 abbrev pub label_place : List Row → List ℕ → Option Next

@@ -18,7 +18,7 @@ use tables::row::{Operand, RowOf};
 fn symbols_of<K: Kind>(kind: &K, line: &[u8], token: Token) -> usize
     requires inside { Inside line.now token }
     requires small { length line.now < 2 ^ 32 }
-    ensures value { result ≡ length (token_symbols K.Kind.meant K.Kind.wide line.now token) }
+    ensures value { result ≡ length (token_symbols K.Kind.meant K.Kind.WIDTH line.now token) }
     ensures few { result ≤ token.size }
 {
     literal(kind, line, token).unwrap_or(0)
@@ -42,8 +42,8 @@ pub(crate) fn read_row<K: Kind, L: Label>(
     requires small { length line.now < 2 ^ 32 }
     requires place { from < 2 ^ 32 }
     requires symbols { symbols < 2 ^ 32 }
-    ensures row { result.row ≡ line_row L.Label.labelled K.Kind.meant K.Kind.wide (names_of naming.now) (labels_of naming.now) from symbols line.now }
-    ensures symbols { result.symbols ≡ symbols + length (line_symbols K.Kind.meant K.Kind.wide line.now) }
+    ensures row { result.row ≡ line_row L.Label.labelled K.Kind.meant K.Kind.WIDTH (names_of naming.now) (labels_of naming.now) from symbols line.now }
+    ensures symbols { result.symbols ≡ symbols + length (line_symbols K.Kind.meant K.Kind.WIDTH line.now) }
     ensures few { result.symbols ≤ symbols + length line.now }
 {
     let mut row = blank_row();

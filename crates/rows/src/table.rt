@@ -19,8 +19,8 @@ pub fn tabulate<K: Kind>(
     text: &[u8],
     rows: &mut [RowOf<Part>],
 ) -> Result<Outline, Refusal>
-    ensures answer { Surveyed (table_refusal (counts K.Kind.meant K.Kind.wide) (length rows.old) text.now) (brought (counts K.Kind.meant K.Kind.wide) text.now) text.now result }
-    ensures rows { rows.new ≡ unless (table_refusal (counts K.Kind.meant K.Kind.wide) (length rows.old) text.now) rows.old (over (table_rows K.Kind.meant K.Kind.wide text.now) rows.old) }
+    ensures answer { Surveyed (table_refusal (counts K.Kind.meant K.Kind.WIDTH) (length rows.old) text.now) (brought (counts K.Kind.meant K.Kind.WIDTH) text.now) text.now result }
+    ensures rows { rows.new ≡ unless (table_refusal (counts K.Kind.meant K.Kind.WIDTH) (length rows.old) text.now) rows.old (over (table_rows K.Kind.meant K.Kind.WIDTH text.now) rows.old) }
 {
     if rows.len() < 128 {
         return Err(nowhere(Cause::ShortArea));

@@ -37,9 +37,9 @@ fn put_row<L: Label>(rows: &mut [RowOf<L>], count: usize, line: &[u8], row: RowO
 // Writes the rows of a sheet to the front of an area; how many they are.
 pub fn write_rows<K: Kind, L: Label>(kind: &K, naming: &Naming, rows: &mut [RowOf<L>]) -> usize
     requires small { length naming.now.text.now < 2 ^ 31 }
-    requires room { length (rows_from L.Label.labelled K.Kind.meant K.Kind.wide (names_of naming.now) (labels_of naming.now) 0 0 (lines_of naming.now.text.now)) ≤ length rows.old }
-    ensures value { result ≡ length (rows_from L.Label.labelled K.Kind.meant K.Kind.wide (names_of naming.now) (labels_of naming.now) 0 0 (lines_of naming.now.text.now)) }
-    ensures rows { rows.new ≡ over (rows_from L.Label.labelled K.Kind.meant K.Kind.wide (names_of naming.now) (labels_of naming.now) 0 0 (lines_of naming.now.text.now)) rows.old }
+    requires room { length (rows_from L.Label.labelled K.Kind.meant K.Kind.WIDTH (names_of naming.now) (labels_of naming.now) 0 0 (lines_of naming.now.text.now)) ≤ length rows.old }
+    ensures value { result ≡ length (rows_from L.Label.labelled K.Kind.meant K.Kind.WIDTH (names_of naming.now) (labels_of naming.now) 0 0 (lines_of naming.now.text.now)) }
+    ensures rows { rows.new ≡ over (rows_from L.Label.labelled K.Kind.meant K.Kind.WIDTH (names_of naming.now) (labels_of naming.now) 0 0 (lines_of naming.now.text.now)) rows.old }
 {
     let mut from = 0;
     let mut stored = 0;

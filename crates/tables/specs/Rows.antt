@@ -1,4 +1,4 @@
--- Statements as the tables of a sheet keep them, and what their parts tell. Assumes nothing.
+-- What a row is, and what its parts tell. Assumes nothing.
 use Rattle.std.specs.Prelude.{ℕ, Bool, false, List, take, ◌==◌}
 use Rattle.tables.specs.declared.name.Name.{Name}
 use Rattle.tables.specs.declared.row.Item.{Item}

@@ -16,15 +16,15 @@ pub write_rows-requires : goal.write_rows-requires
 write_rows-requires g c =
     let k = c.in_ok-outline.ensures in
     let m = c.new.ensures in
-    let r = few_rows g.K.Kind.meant g.K.Kind.wide c.args.text.now c.in_ok-outline.outline k.0 k.1 k.2 c.new.result m.text m.names m.labels part_label in
+    let r = few_rows g.K.Kind.meant g.K.Kind.WIDTH c.args.text.now c.in_ok-outline.outline k.0 k.1 k.2 c.new.result m.text m.names m.labels part_label in
     record {
-      small = short_text g.K.Kind.meant g.K.Kind.wide c.args.text.now c.in_ok-outline.outline k.0 k.1 k.2 c.new.result m.text m.names m.labels;
+      small = short_text g.K.Kind.meant g.K.Kind.WIDTH c.args.text.now c.in_ok-outline.outline k.0 k.1 k.2 c.new.result m.text m.names m.labels;
       room = omega (arith, r);
     }
 
 pub returns : goal.returns
 returns g c =
-    let reads = counts g.K.Kind.meant g.K.Kind.wide in
+    let reads = counts g.K.Kind.meant g.K.Kind.WIDTH in
     let text = c.args.text.now in
     let k = c.in_ok-outline.ensures in
     let m = c.new.ensures in
@@ -34,6 +34,6 @@ returns g c =
     record {
       answer = (none, k.1, k.2);
       rows = c.write_rows.ensures.rows
-          ∙ ap (λ (xs : List (RowOf Part)). over xs c.args.rows.now) (rows_are g.K.Kind.meant g.K.Kind.wide text c.in_ok-outline.outline k.0 k.1 k.2 c.new.result m.text m.names m.labels part_label)
-          ∙ ap (λ (f : Option Refusal). unless f c.args.rows.now (over (table_rows g.K.Kind.meant g.K.Kind.wide text) c.args.rows.now)) (sym none);
+          ∙ ap (λ (xs : List (RowOf Part)). over xs c.args.rows.now) (rows_are g.K.Kind.meant g.K.Kind.WIDTH text c.in_ok-outline.outline k.0 k.1 k.2 c.new.result m.text m.names m.labels part_label)
+          ∙ ap (λ (f : Option Refusal). unless f c.args.rows.now (over (table_rows g.K.Kind.meant g.K.Kind.WIDTH text) c.args.rows.now)) (sym none);
     }

@@ -1,18 +1,20 @@
 -- Elements that fit: one after the other, and what they then read. Assumes nothing.
-use Rattle.std.proofs.Common.{◌≡◌, ℕ, zero, suc, ◌+◌, ◌<◌, true, ◌&&◌, leb, List, [], ◌∷◌, length, get_or, drop, ap, ◌∙◌, arith}
-use Rattle.std.proofs.lemmas.List.{drop_more}
+use Rattle.std.proofs.Common.{◌≡◌, ℕ, zero, suc, ◌+◌, ◌<◌, ◌≤◌, true, refl, sym, ◌&&◌, leb, List, [], ◌∷◌, length, get_or, ap, ◌∙◌, arith}
 use Rattle.std.proofs.lemmas.Bool.{and_parts, leb-true, ltb-true}
+use Rattle.std.specs.List.{list_all, enumerate_from}
 use Rattle.scan.specs.declared.element.Element.{Element}
 use Rattle.scan.specs.declared.element.Element.TheVariants.{Compared, Fixed, Free}
+use Rattle.scan.specs.declared.element.Source.{Source}
 use Rattle.scan.specs.declared.element.Source.TheVariants.{Constant, Back}
 use Rattle.scan.specs.declared.row.Row.{Row}
 use Rattle.scan.specs.Elements.{fits, all_fit}
 use Rattle.scan.specs.Rows.{Readable, Parted}
 use Rattle.scan.proofs.Suiting.{Refers}
 
-pub fit_more : (c i : ℕ) (es : List Element) (d : Element) → i < length es → all_fit c i (drop i es) ≡ (fits c i (get_or es i d) && all_fit c (i + 1) (drop (i + 1) es))
+pub fit_enumerated : (c i : ℕ) (es : List Element) → list_all (λ p. fits c p.0 p.1) (enumerate_from i es) ≡ all_fit c i es
 unfolding all_fit
-fit_more c i es d l = let z : suc i ≡ i + 1 = omega arith in ap (all_fit c i) (drop_more es i d l) ∙ ap (λ k. fits c i (get_or es i d) && all_fit c k (drop (i + 1) es)) z
+fit_enumerated c i [] = refl
+fit_enumerated c i (x ∷ es) = let z : i + 1 ≡ suc i = omega arith in ap (λ b. fits c i x && b) (fit_enumerated c (i + 1) es ∙ ap (λ k. all_fit c k es) z)
 
 -- each of them does
 pub fit_at : (c b i : ℕ) (es : List Element) (d : Element) → all_fit c b es ≡ true → i < length es → fits c (b + i) (get_or es i d) ≡ true
@@ -32,3 +34,10 @@ fit_reads n c i rows (Compared (Constant from to)) l p t = let h = and_parts (le
 fit_reads n c i rows (Compared (Back j)) l p t = let h = ltb-true j i t in let q = p j h in (omega arith, q.0, q.1)
 fit_reads n c i rows (Fixed size) l p t = tt
 fit_reads n c i rows (Free variable) l p t = tt
+
+-- a constant that stands first lies within the constants
+pub front_reads : (c : ℕ) (es : List Element) (source : Source) (from to : ℕ) (d : Element) → all_fit c 0 es ≡ true → 0 < length es → get_or es 0 d ≡ Compared source → source ≡ Constant from to → (from ≤ to) × (to ≤ c)
+front_reads c es source from to d t some is constant =
+    let fit : fits c 0 (Compared (Constant from to)) ≡ true = ap (λ x. fits c 0 (Compared x)) (sym constant) ∙ ap (fits c 0) (sym is) ∙ fit_at c 0 0 es d t some in
+    let h = and_parts (leb from to) _ fit in
+    (leb-true from to h.0, leb-true to c h.1)

@@ -7,6 +7,7 @@ pub mod Suiting
 pub mod Courses
 pub mod Resuming
 pub mod Onward
+pub mod Telling
 pub mod Walking
 pub mod Starting
 pub mod Trying

@@ -1,17 +1,16 @@
 -- A walk from one start, move by move. Assumes nothing.
-use Rattle.std.proofs.Common.{◌≡◌, ℕ, suc, ◌+◌, ◌-◌, ◌<◌, ◌≤◌, Bool, eqb, ◌≢◌, List, [], ◌∷◌, length, get_or, set, Some, Option, sym, refl, ap, ◌∙◌, subst, append-nil, arith}
+use Rattle.std.proofs.Common.{◌≡◌, ℕ, suc, ◌+◌, ◌-◌, ◌<◌, ◌≤◌, Bool, eqb, ◌≢◌, List, [], ◌∷◌, length, get_or, set, Some, None, Ok, Err, Option, sym, refl, ap, ◌∙◌, subst, append-nil, arith}
 use Rattle.std.proofs.lemmas.List.{length-set, get_or-set_other, get_or-set_same}
 use Rattle.std.proofs.lemmas.Bool.{eqb-true, eqb-false}
 use Rattle.placings.specs.Tree.{below, push}
 use Rattle.placings.specs.Enumeration.{first, count}
 use Rattle.scan.specs.declared.row.Row.{Row}
 use Rattle.scan.specs.declared.step.Move.TheVariants as move
-use Rattle.scan.specs.declared.walk.Resumed.TheVariants.{At, Nowhere, Spent}
-use Rattle.scan.specs.declared.walk.Ended.TheVariants.{Placed, Missed, Exceeded}
+use Rattle.scan.specs.declared.answer.ScanRefusal.TheVariants.{Spent}
 use Rattle.scan.specs.Ends.{Next}
 use Rattle.scan.specs.Rows.{unused, entered}
 use Rattle.scan.specs.Steps.{course}
-use Rattle.scan.specs.Left.{beginning, places, behind, left, Standing, Retreats, Ends}
+use Rattle.scan.specs.Left.{beginning, places, behind, left, Standing, Retreats}
 use Rattle.scan.proofs.Courses.{forward_is, back_is, done_is, spent_is}
 use Rattle.scan.proofs.Suiting.{length_places}
 use Rattle.scan.proofs.Stack.{below_across, left_forward, left_back, left_some, behind_set, places_set, places_set_below, standing_none, standing_more, beginning_more, beginning_set, first_full, first_more, count_full, count_more, count_some}
@@ -23,6 +22,7 @@ pub record Onward (ok : List ℕ → ℕ → Bool) (n m start trials : ℕ) (row
   pub within : begin ≤ n
   pub stands : Standing ok n m start rows i
   pub firsts : first m (below ok n m (start ∷ [])) ≡ first m (left ok n m start rows i 0)
+  pub fewer : now ≤ trials
   pub counts : count m (below ok n m (start ∷ [])) + now ≡ trials + count m (left ok n m start rows i 0)
 
 module _ (ok : List ℕ → ℕ → Bool) (n m start trials : ℕ) where
@@ -31,7 +31,7 @@ module _ (ok : List ℕ → ℕ → Bool) (n m start trials : ℕ) where
   onward_none rows l some w =
       let z : m ≡ suc (m - 1) = omega arith in
       let e : below ok n m (start ∷ []) ≡ left ok n m start rows 0 0 = ap (λ d. below ok n d (start ∷ [])) z ∙ below_across ok n (m - 1) (start ∷ []) ∙ sym (append-nil _) in
-      record { short = some; begins = refl; within = w; stands = standing_none ok n m start rows l; firsts = ap (first m) e; counts = omega (arith, ap (count m) e) }
+      record { short = some; begins = refl; within = w; stands = standing_none ok n m start rows l; firsts = ap (first m) e; fewer = omega arith; counts = omega (arith, ap (count m) e) }
 
   -- one more partial placing, which is no placing
   onward_more : m ≤ 8 → (rows after : List Row) (i j begin end now : ℕ) → Onward ok n m start trials rows i begin now → 0 < now → j < m → end ≡ beginning start after j → end ≤ n → Standing ok n m start after j → left ok n m start rows i 0 ≡ places start after j ∷ left ok n m start after j 0 → Onward ok n m start trials after j end (now - 1)
@@ -46,6 +46,7 @@ module _ (ok : List ℕ → ℕ → Bool) (n m start trials : ℕ) where
         within = w;
         stands = st;
         firsts = o.firsts ∙ ap (first m) e ∙ first_more m (places start after j) (left ok n m start after j 0) ne;
+        fewer = let f = o.fewer in omega arith;
         counts = omega (arith, ap (count m) e, count_more m (places start after j) (left ok n m start after j 0) ne);
       }
 
@@ -79,7 +80,7 @@ module _ (ok : List ℕ → ℕ → Bool) (n m start trials : ℕ) where
         (standing_more ok n m start rows i row k o.stands (ap (λ (y : Row). y.begin) is ∙ o.begins) h.1 h.2)
         (left_forward ok n m start rows i 0 row (omega arith) k h))
 
-    pub onward_placed : move.Done ≡ course last now r → Ends m start (below ok n m (start ∷ [])) trials (set rows i row) (Placed (now - 1))
+    pub onward_placed : move.Done ≡ course last now r → (first m (below ok n m (start ∷ [])) ≡ Some (places start (set rows i row) m)) × (count m (below ok n m (start ∷ [])) + (now - 1) ≡ trials)
     onward_placed q =
         let x = done_is last now r q in
         let eight = o.stands.eight in
@@ -98,8 +99,8 @@ module _ (ok : List ℕ → ℕ → Bool) (n m start trials : ℕ) where
           omega (arith, ap (count m) xs.1, count_full m (push (places start rows i) x.0) xs.0 full),
         )
 
-    pub onward_spent : (after : List Row) → move.Spent ≡ course last now r → Ends m start (below ok n m (start ∷ [])) trials after Exceeded
-    onward_spent after q =
+    pub onward_spent : move.Spent ≡ course last now r → trials < count m (below ok n m (start ∷ []))
+    onward_spent q =
         let x = spent_is last now r q in
         let xs = left_some ok n m start rows i 0 x.0 (subst (Next (ok (places start rows i)) n 0) x.1 nxt) in
         let none = x.2 in
@@ -111,7 +112,7 @@ module _ (ok : List ℕ → ℕ → Bool) (n m start trials : ℕ) where
       passed_on : left ok n m start rows i 0 ≡ behind ok n m start (set rows i row) i
       passed_on = left_back ok n m start rows i 0 (subst (Next (ok (places start rows i)) n 0) (back_is last now r q) nxt) ∙ sym (behind_set ok n m start rows i i row (omega arith))
 
-      pub onward_resumed : (after : List Row) (j e : ℕ) → Retreats ok n m start (set rows i row) i now after (At j e) → Onward ok n m start trials after (j + 1) e (now - 1)
+      pub onward_resumed : (after : List Row) (j e : ℕ) → Retreats ok n m start (set rows i row) i now after (Ok (Some (j, e))) → Onward ok n m start trials after (j + 1) e (now - 1)
       onward_resumed after j e h =
           let l = h.0 in
           let short = o.short in
@@ -123,9 +124,9 @@ module _ (ok : List ℕ → ℕ → Bool) (n m start trials : ℕ) where
           subst (λ x. Onward ok n m start trials after x e (now - 1)) z
           (onward_more few rows after i (suc j) begin e now o h.1 (omega arith) (sym at) (subst (λ x. x ≤ n) held (h.3.within j (omega arith))) h.3 (passed_on ∙ h.4))
 
-      pub onward_missed : (after : List Row) → Retreats ok n m start (set rows i row) i now after Nowhere → Ends m start (below ok n m (start ∷ [])) trials after (Missed now)
+      pub onward_missed : (after : List Row) → Retreats ok n m start (set rows i row) i now after (Ok None) → (first m (below ok n m (start ∷ [])) ≡ None) × (count m (below ok n m (start ∷ [])) + now ≡ trials)
       unfolding first count
       onward_missed after h = let e = passed_on ∙ h in let c = o.counts in (o.firsts ∙ ap (first m) e, omega (arith, ap (count m) e))
 
-      pub onward_exceeded : (after : List Row) → Retreats ok n m start (set rows i row) i now after Spent → Ends m start (below ok n m (start ∷ [])) trials after Exceeded
+      pub onward_exceeded : (after : List Row) → Retreats ok n m start (set rows i row) i now after (Err Spent) → trials < count m (below ok n m (start ∷ []))
       onward_exceeded after h = let c = o.counts in omega (arith, ap (count m) passed_on)

@@ -1,5 +1,5 @@
 -- A walk back, row by row. Assumes nothing.
-use Rattle.std.proofs.Common.{◌≡◌, ℕ, suc, ◌+◌, ◌-◌, ◌<◌, ◌≤◌, Bool, false, List, length, get_or, set, Some, Option, sym, refl, ap, ◌∙◌, subst, arith}
+use Rattle.std.proofs.Common.{◌≡◌, ℕ, suc, ◌+◌, ◌-◌, ◌<◌, ◌≤◌, Bool, false, List, length, get_or, set, Some, None, Ok, Err, Option, sym, refl, ap, ◌∙◌, subst, arith}
 use Rattle.std.proofs.lemmas.List.{set-get_or}
 use Rattle.std.proofs.lemmas.Bool.{ne_eqb}
 use Rattle.symbols.specs.declared.role.Role.{Role}
@@ -10,8 +10,7 @@ use Rattle.scan.specs.declared.element.Element.TheVariants.{Compared}
 use Rattle.scan.specs.declared.element.Source.TheVariants.{Constant}
 use Rattle.scan.specs.declared.row.Row.{Row}
 use Rattle.scan.specs.declared.step.Move.TheVariants.{Forward, Back, Spent}
-use Rattle.scan.specs.declared.walk.Resumed.TheVariants.{At, Nowhere}
-use Rattle.scan.specs.declared.walk.Resumed.TheVariants as resumed
+use Rattle.scan.specs.declared.answer.ScanRefusal.TheVariants as refusal
 use Rattle.scan.specs.Ends.{Next, NextEnd, element_end}
 use Rattle.scan.specs.Rows.{unused, advanced, compared_with, Parted}
 use Rattle.scan.specs.Steps.{course}
@@ -61,7 +60,7 @@ module _ {A : Type 0} (eq : A → A → Bool) (role : A → Role) (s constants :
         let xs = left_some ok (length s) (length es) start rows i ((get_or rows i unused).end + 1) x.0 (subst (Next (ok (places start rows i)) (length s) ((get_or rows i unused).end + 1)) x.1 (resumes r h)) in
         (x.2, subst (λ ys. 0 < count (length es) ys) (sym (behind_here ∙ xs.1)) (count_some (length es) _ _))
 
-    resume_forward : (trials e : ℕ) (r : Option ℕ) (row : Row) → RowNext eq role s es rows i d r → Forward e ≡ course false trials r → row ≡ advanced (get_or rows i unused) r → behind ok (length s) (length es) start rows from ≡ behind ok (length s) (length es) start rows (suc i) → Retreats ok (length s) (length es) start rows from trials (set rows i row) (At i e)
+    resume_forward : (trials e : ℕ) (r : Option ℕ) (row : Row) → RowNext eq role s es rows i d r → Forward e ≡ course false trials r → row ≡ advanced (get_or rows i unused) r → behind ok (length s) (length es) start rows from ≡ behind ok (length s) (length es) start rows (suc i) → Retreats ok (length s) (length es) start rows from trials (set rows i row) (Ok (Some (i, e)))
     resume_forward trials e r row h q a b =
         let x = forward_is false trials r e q in
         let eight = st.eight in
@@ -85,12 +84,12 @@ pub record Returning {A : Type 0} (eq : A → A → Bool) (role : A → Role) (s
   pub before : i ≤ from
   pub passed : (constants : List A) (start : ℕ) → Standing (follows eq role s constants es) (length s) (length es) start rows from → behind (follows eq role s constants es) (length s) (length es) start rows from ≡ behind (follows eq role s constants es) (length s) (length es) start rows i
 
-pub returning_none : {A : Type 0} (eq : A → A → Bool) (role : A → Role) (s : List A) (es : List Element) (rows : List Row) (from : ℕ) → (from < length es) × ((length es ≤ 8) × Parted (length s) rows from) → Returning eq role s es rows from rows from
-returning_none eq role s es rows from p = record { short = p.0; few = p.1.0; parted = p.1.1; same = refl; before = omega arith; passed = λ constants start st. refl }
+pub returning_none : {A : Type 0} (eq : A → A → Bool) (role : A → Role) (s : List A) (es : List Element) (rows : List Row) (from : ℕ) → (from < length es) × Parted (length s) rows from → length es ≤ 8 → Returning eq role s es rows from rows from
+returning_none eq role s es rows from p few = record { short = p.0; few = few; parted = p.1; same = refl; before = omega arith; passed = λ constants start st. refl }
 
 module _ {A : Type 0} {eq : A → A → Bool} {role : A → Role} {s : List A} {es : List Element} {rows : List Row} {from : ℕ} {now : List Row} {i : ℕ} (o : Returning eq role s es rows from now i) where
   -- nothing is left before the first row
-  pub returning_all : (trials : ℕ) (after : List Row) → i ≤ 0 → WalksBack eq role s es rows from trials after Nowhere
+  pub returning_all : (trials : ℕ) (after : List Row) → i ≤ 0 → WalksBack eq role s es rows from trials after (Ok None)
   unfolding behind
   returning_all trials after l constants start st =
       let z : i ≡ 0 = omega arith in
@@ -111,12 +110,12 @@ module _ {A : Type 0} {eq : A → A → Bool} {role : A → Role} {s : List A} {
       left_here : (constants : List A) (start : ℕ) → Standing (follows eq role s constants es) (length s) (length es) start rows from → behind (follows eq role s constants es) (length s) (length es) start rows from ≡ behind (follows eq role s constants es) (length s) (length es) start rows (suc (i - 1))
       left_here constants start st = let z : i ≡ suc (i - 1) = omega arith in o.passed constants start st ∙ ap (behind (follows eq role s constants es) (length s) (length es) start rows) z
 
-      pub returning_forward : (e : ℕ) → Forward e ≡ course false trials r → WalksBack eq role s es rows from trials (set now (i - 1) row) (At (i - 1) e)
+      pub returning_forward : (e : ℕ) → Forward e ≡ course false trials r → WalksBack eq role s es rows from trials (set now (i - 1) row) (Ok (Some (i - 1, e)))
       returning_forward e q constants start st =
-          subst (λ (x : List Row). Retreats (follows eq role s constants es) (length s) (length es) start rows from trials (set x (i - 1) row) (At (i - 1) e)) (sym o.same)
+          subst (λ (x : List Row). Retreats (follows eq role s constants es) (length s) (length es) start rows from trials (set x (i - 1) row) (Ok (Some (i - 1, e)))) (sym o.same)
           (resume_forward eq role s constants es start rows from (i - 1) (Compared (Constant 0 0)) here o.short o.few st trials e r row h' q (subst (λ (x : List Row). row ≡ advanced (get_or x (i - 1) unused) r) o.same moved) (left_here constants start st))
 
-      pub returning_spent : (after : List Row) → Spent ≡ course false trials r → WalksBack eq role s es rows from trials after resumed.Spent
+      pub returning_spent : (after : List Row) → Spent ≡ course false trials r → WalksBack eq role s es rows from trials after (Err refusal.Spent)
       returning_spent after q constants start st =
           let x = resume_spent eq role s constants es start rows from (i - 1) (Compared (Constant 0 0)) here o.short o.few st trials r h' q in
           (x.0, subst (λ xs. 0 < count (length es) xs) (sym (left_here constants start st)) x.1)

@@ -1,7 +1,9 @@
 -- Where a scan starts: the symbol that it looks for, and what it passes over. Assumes nothing.
-use Rattle.std.proofs.Common.{◌≡◌, ℕ, zero, suc, ◌-◌, ◌<◌, ◌≤◌, Bool, false, cond, leb, List, [], ◌∷◌, ◌++◌, length, get_or, take, drop, Some, None, Option, sym, refl, ap, ◌∙◌, arith}
-use Rattle.std.proofs.lemmas.List.{drop_more, drop_all}
-use Rattle.std.proofs.lemmas.Bool.{and_right, and_left, true≢false, le-leb, ne_eqb, lt-leb}
+use Rattle.std.proofs.Common.{◌≡◌, ℕ, zero, suc, ◌+◌, ◌-◌, ◌<◌, ◌≤◌, Bool, true, false, cond, ⊎_elim, leb, List, [], ◌∷◌, ◌++◌, length, get_or, take, drop, Some, None, Option, sym, refl, ap, ◌∙◌, arith}
+use Rattle.std.proofs.lemmas.List.{drop_more, drop_all, length-drop, get_or-drop}
+use Rattle.std.specs.List.{AllWithin, HoldsAt}
+use Rattle.std.specs.Option.{MatchOption}
+use Rattle.std.proofs.lemmas.Bool.{and_right, and_left, true≢false, le-leb, ne_eqb, lt-leb, cases_lt}
 use Rattle.symbols.specs.declared.role.Role.{Role}
 use Rattle.placings.specs.declared.mode.Mode.{Mode}
 use Rattle.placings.specs.declared.mode.Mode.TheVariants.{Unanchored, Anchored}
@@ -12,18 +14,41 @@ use Rattle.scan.specs.declared.element.Element.{Element}
 use Rattle.scan.specs.declared.element.Element.TheVariants.{Compared, Fixed, Free}
 use Rattle.scan.specs.declared.element.Source.TheVariants.{Constant, Back}
 use Rattle.scan.specs.Elements.{pattern}
-use Rattle.scan.specs.Starts.{last_start, front, pattern_front, head_of, begins_with, stops_at, Everywhere}
-use Rattle.scan.proofs.Parts.{part_more}
+use Rattle.scan.specs.Ends.{Next}
+use Rattle.scan.specs.Starts.{last_start, front, head_of, begins_with, stops_at}
 use Rattle.scan.proofs.Stack.{across_none, below_across}
 
-pub front_some : {A : Type 0} (constants : List A) (from to : ℕ) (x : A) → from < to → from < length constants → x ≡ get_or constants from x → Some x ≡ front (part constants from to)
-front_some constants from to x l h is = sym (ap front (part_more constants from to x l h is))
+-- the first place from a place on where a symbol stands
+module _ {A : Type 0} (eq : A → A → Bool) (x : A) (s : List A) (from : ℕ) where
+  -- what a search of the rest says of its places
+  abbrev pub Found : Option ℕ → Type 0
+  Found r = MatchOption r (AllWithin (λ y. eq y x ≡ false) (drop from s) 0 (length (drop from s))) (λ i. (i < length (drop from s)) × HoldsAt (λ y. eq y x ≡ true) (drop from s) i × AllWithin (λ y. eq y x ≡ false) (drop from s) 0 i)
 
-pub begins_at : {A : Type 0} (eq : A → A → Bool) (s : List A) (i : ℕ) (x y : A) → i < length s → x ≡ get_or s i x → begins_with eq y (drop i s) ≡ eq x y
-begins_at eq s i x y l is = ap (begins_with eq y) (drop_more s i x l) ∙ ap (λ z. eq z y) (sym is)
+  begins_at : (k : ℕ) → from ≤ k → k < length s → begins_with eq x (drop k s) ≡ eq (get_or (drop from s) (k - from) x) x
+  begins_at k l h =
+      let z : from + (k - from) ≡ k = omega arith in
+      ap (begins_with eq x) (drop_more s k x h) ∙ ap (λ y. eq y x) (sym (get_or-drop from s (k - from) x ∙ ap (λ j. get_or s j x) z))
 
-pub begins_past : {A : Type 0} (eq : A → A → Bool) (s : List A) (k : ℕ) (y : A) → length s ≤ k → begins_with eq y (drop k s) ≡ false
-begins_past eq s k y l = ap (begins_with eq y) (drop_all k s l)
+  begins_past : (k : ℕ) → length s ≤ k → begins_with eq x (drop k s) ≡ false
+  begins_past k l = ap (begins_with eq x) (drop_all k s l)
+
+  pub found_none : Found None → Next (stops_at eq s (Some x)) (length s) from None
+  found_none h k a b =
+      ⊎_elim
+      (λ (l : k < length s). begins_at k a l ∙ h (k - from) x (omega arith) (omega (arith, length-drop from s)))
+      (λ (l : length s ≤ k). begins_past k l)
+      (cases_lt k (length s))
+
+  pub found_some : (i : ℕ) → Found (Some i) → Next (stops_at eq s (Some x)) (length s) from (Some (from + i))
+  found_some i h =
+      let l = h.0 in
+      let m : from + i < length s = omega (arith, length-drop from s) in
+      let z : from + i - from ≡ i = omega arith in (
+        omega arith,
+        omega arith,
+        begins_at (from + i) (omega arith) m ∙ ap (λ j. eq (get_or (drop from s) j x) x) z ∙ h.1 x,
+        λ k a b. begins_at k a (omega arith) ∙ h.2 (k - from) x (omega arith) (omega arith),
+      )
 
 module _ {A : Type 0} (eq : A → A → Bool) where
   -- a part that begins with another symbol is not equal
@@ -60,15 +85,6 @@ module _ {A : Type 0} (eq : A → A → Bool) where
     starts_to es Unanchored n k l = sym (le-leb k n l)
     starts_to es Anchored n zero l = refl
     starts_to es Anchored n (suc k) l = ne_eqb (suc k) 0 (λ q. omega arith) ∙ sym (lt-leb (suc k) 0 (omega arith))
-
-wholly : {A : Type 0} (o : Option A) (n : ℕ) → Everywhere o n n
-wholly None n = tt
-wholly (Some x) n = refl
-
--- a head is looked for only where every place is a start
-pub everywhere : {A : Type 0} (mode : Mode) (constants : List A) (es : List Element) (n : ℕ) → Everywhere (head_of mode constants es) (last_start mode n) n
-everywhere Anchored constants es n = tt
-everywhere Unanchored constants es n = wholly (pattern_front constants es) n
 
 pub last_within : (mode : Mode) (n : ℕ) → last_start mode n ≤ n
 last_within Unanchored n = omega arith

@@ -1,12 +1,11 @@
 -- The starts that are tried one after the other, and the trials. Assumes nothing.
 use Rattle.std.proofs.Common.{◌≡◌, ℕ, zero, suc, ◌+◌, ◌-◌, ◌<◌, ◌≤◌, Bool, true, false, cond, eqb, leb, List, [], ◌∷◌, ◌++◌, length, Some, None, Option, sym, refl, ap, ◌∙◌, subst, arith}
-use Rattle.std.proofs.lemmas.Bool.{cond-true, cond-false, le-leb, lt-leb}
+use Rattle.std.proofs.lemmas.Bool.{le-leb, lt-leb}
 use Rattle.placings.specs.Tree.{below, paths}
 use Rattle.placings.specs.Enumeration.{first, count, answer, tells, success, failure, spent}
-use Rattle.scan.specs.declared.row.Row.{Row}
-use Rattle.scan.specs.declared.walk.Ended.TheVariants.{Placed, Missed, Exceeded}
 use Rattle.scan.specs.Ends.{Next}
-use Rattle.scan.specs.Left.{across, places, Ends}
+use Rattle.scan.specs.Left.{across}
+use Rattle.scan.proofs.Telling.{told_spent, told_within}
 use Rattle.scan.proofs.Stack.{across_none, across_some, below_across, first_more, count_more}
 
 module _ (m : ℕ) where
@@ -72,12 +71,10 @@ module _ (ok : List ℕ → ℕ → Bool) (n m last allowance : ℕ) (some : 0 <
   tried_none = let e = below_across ok n m [] in record { reach = omega arith; fewer = omega arith; firsts = ap (first m) e; counts = omega (arith, ap (count m) e) }
 
   tells_spent : allowance < count m (paths ok n m) → answer m allowance (paths ok n m) ≡ spent
-  tells_spent l = cond-false (leb (count m (paths ok n m)) allowance) _ spent (lt-leb _ _ l)
+  tells_spent l = told_spent m allowance (paths ok n m) l
 
   tells_within : (rest : ℕ) (v : Option (List ℕ)) → first m (paths ok n m) ≡ v → count m (paths ok n m) + rest ≡ allowance → answer m allowance (paths ok n m) ≡ tells v (allowance - rest)
-  tells_within rest v e q =
-      let z : count m (paths ok n m) ≡ allowance - rest = omega arith in
-      cond-true (leb (count m (paths ok n m)) allowance) (tells (first m (paths ok n m)) (count m (paths ok n m))) spent (le-leb _ _ (omega arith)) ∙ rw (e, z)
+  tells_within rest v e q = told_within m allowance (paths ok n m) rest v e q
 
   module _ (stop : ℕ → Bool) (barren : (k : ℕ) → stop k ≡ false → below ok n m (k ∷ []) ≡ []) (start left : ℕ) (t : Tried ok n m last allowance start left) where
     -- the scan stops at no start any more
@@ -94,8 +91,8 @@ module _ (ok : List ℕ → ℕ → Bool) (n m last allowance : ℕ) (some : 0 <
     pub passed_spent : Next stop last start None → left ≤ last - start → answer m allowance (paths ok n m) ≡ spent
     passed_spent h l = let r = (passed h).1 in tells_spent (omega arith)
 
-    pub passed_failed : Next stop last start None → last - start < left → answer m allowance (paths ok n m) ≡ failure (allowance - (left - (last - start) - 1))
-    passed_failed h l = let r = (passed h).1 in tells_within (left - (last - start) - 1) None (passed h).0 (omega arith)
+    pub passed_failed : Next stop last start None → (more : ℕ) → more + (last - start + 1) ≡ left → answer m allowance (paths ok n m) ≡ failure (allowance - more)
+    passed_failed h more l = let r = (passed h).1 in tells_within more None (passed h).0 (omega arith)
 
     -- the scan stops at a start
     module _ (s : ℕ) (h : Next stop last start (Some s)) where
@@ -113,38 +110,39 @@ module _ (ok : List ℕ → ℕ → Bool) (n m last allowance : ℕ) (some : 0 <
       pub stopped_spent : left ≤ s - start → answer m allowance (paths ok n m) ≡ spent
       stopped_spent l = let r = stopped.1 in tells_spent (omega arith)
 
-      pub stopped_exceeded : (rows : List Row) → s - start < left → Ends m s (below ok n m (s ∷ [])) (left - (s - start + 1)) rows Exceeded → answer m allowance (paths ok n m) ≡ spent
-      stopped_exceeded rows l e = let r = stopped.1 in let g = count_append m (below ok n m (s ∷ [])) (across ok n m [] (suc s)) in tells_spent (omega arith)
+      -- some trials are left for the walk from it
+      module _ (more : ℕ) (l : more + (s - start + 1) ≡ left) where
+        abbrev walk : List (List ℕ)
+        walk = below ok n m (s ∷ [])
 
-      pub stopped_placed : (rows : List Row) (rest : ℕ) → s - start < left → Ends m s (below ok n m (s ∷ [])) (left - (s - start + 1)) rows (Placed rest) → answer m allowance (paths ok n m) ≡ success (places s rows m) (allowance - rest)
-      stopped_placed rows rest l e =
-          let r = stopped.1 in
-          let g = first_append m (below ok n m (s ∷ [])) (across ok n m [] (suc s)) (places s rows m) e.0 in
-          let q = e.1 in
-          let d = g.1 in
-          tells_within rest (Some (places s rows m)) (stopped.0 ∙ g.0) (omega arith)
+        pub stopped_exceeded : more < count m walk → answer m allowance (paths ok n m) ≡ spent
+        stopped_exceeded e = let r = stopped.1 in let g = count_append m walk (across ok n m [] (suc s)) in tells_spent (omega arith)
 
-      missed : (rows : List Row) (rest : ℕ) → s - start < left → Ends m s (below ok n m (s ∷ [])) (left - (s - start + 1)) rows (Missed rest) → (first m (paths ok n m) ≡ first m (across ok n m [] (suc s))) × (count m (paths ok n m) + rest ≡ allowance + count m (across ok n m [] (suc s)))
-      missed rows rest l e =
-          let r = stopped.1 in
-          let g = none_append m (below ok n m (s ∷ [])) (across ok n m [] (suc s)) e.0 in
-          let q = e.1 in
-          let d = g.1 in
-          (stopped.0 ∙ g.0, omega arith)
+        pub stopped_placed : (p : List ℕ) → first m walk ≡ Some p → count m walk ≤ more → answer m allowance (paths ok n m) ≡ success p (allowance - (more - count m walk))
+        stopped_placed p e q =
+            let r = stopped.1 in
+            let g = first_append m walk (across ok n m [] (suc s)) p e in
+            let d = g.1 in
+            tells_within (more - count m walk) (Some p) (stopped.0 ∙ g.0) (omega arith)
 
-      pub missed_failed : (rows : List Row) (rest : ℕ) → s - start < left → s ≡ last → Ends m s (below ok n m (s ∷ [])) (left - (s - start + 1)) rows (Missed rest) → answer m allowance (paths ok n m) ≡ failure (allowance - rest)
-      unfolding first count
-      missed_failed rows rest l z e =
-          let r = missed rows rest l e in
-          let c = r.1 in
-          let p = past (suc s) (omega arith) in
-          tells_within rest None (r.0 ∙ ap (first m) p) (omega (arith, ap (count m) p))
+        missed : first m walk ≡ None → count m walk ≤ more → (first m (paths ok n m) ≡ first m (across ok n m [] (suc s))) × (count m (paths ok n m) + (more - count m walk) ≡ allowance + count m (across ok n m [] (suc s)))
+        missed e q =
+            let r = stopped.1 in
+            let g = none_append m walk (across ok n m [] (suc s)) e in
+            let d = g.1 in
+            (stopped.0 ∙ g.0, omega arith)
 
-      pub missed_more : (rows : List Row) (rest : ℕ) → s - start < left → (s ≡ last → ⊥) → Ends m s (below ok n m (s ∷ [])) (left - (s - start + 1)) rows (Missed rest) → Tried ok n m last allowance (s + 1) rest
-      missed_more rows rest l ne e =
-          let r = missed rows rest l e in
-          let b = h.1 in
-          let z : suc s ≡ s + 1 = omega arith in
-          let f = t.fewer in
-          let q = e.1 in
-          subst (λ k. Tried ok n m last allowance k rest) z (record { reach = omega arith; fewer = omega arith; firsts = r.0; counts = r.1 })
+        pub missed_failed : s ≡ last → first m walk ≡ None → count m walk ≤ more → answer m allowance (paths ok n m) ≡ failure (allowance - (more - count m walk))
+        unfolding first count
+        missed_failed z e q =
+            let r = missed e q in
+            let c = r.1 in
+            let p = past (suc s) (omega arith) in
+            tells_within (more - count m walk) None (r.0 ∙ ap (first m) p) (omega (arith, ap (count m) p))
+
+        pub missed_more : s < last → first m walk ≡ None → count m walk ≤ more → Tried ok n m last allowance (s + 1) (more - count m walk)
+        missed_more ne e q =
+            let r = missed e q in
+            let z : suc s ≡ s + 1 = omega arith in
+            let f = t.fewer in
+            subst (λ k. Tried ok n m last allowance k (more - count m walk)) z (record { reach = omega arith; fewer = omega arith; firsts = r.0; counts = r.1 })

@@ -1,15 +1,15 @@
 -- What a scan from one start has left to try, where its rows hold the ends so far. Assumes nothing.
-use Rattle.std.specs.Prelude.{◌≡◌, ℕ, zero, suc, ◌+◌, ◌-◌, ◌<◌, ◌≤◌, Bool, true, cond, List, [], ◌∷◌, ◌++◌, map, length, get_or, take, Some, None, slice_index, slice_index_or, slice_set}
+use Rattle.std.specs.Prelude.{◌≡◌, ℕ, zero, suc, ◌-◌, ◌<◌, ◌≤◌, Bool, true, cond, List, [], ◌∷◌, ◌++◌, map, length, get_or, take, Some, None, Option, Ok, Err, Result, slice_index, slice_index_or, slice_set}
 use Rattle.placings.specs.Tree.{push, run, below}
 use Rattle.symbols.specs.declared.role.Role.{Role}
 use Rattle.placings.specs.declared.mode.Mode.TheVariants.{Unanchored}
-use Rattle.placings.specs.Enumeration.{may, first, count}
+use Rattle.placings.specs.Enumeration.{may, count, answer}
 use Rattle.scan.specs.declared.element.Element.{Element}
 use Rattle.scan.specs.declared.row.Row.{Row}
-use Rattle.scan.specs.declared.walk.Resumed.{Resumed}
-use Rattle.scan.specs.declared.walk.Resumed.TheVariants.{At, Nowhere, Spent}
-use Rattle.scan.specs.declared.walk.Ended.{Ended}
-use Rattle.scan.specs.declared.walk.Ended.TheVariants.{Placed, Missed, Exceeded}
+use Rattle.scan.specs.declared.answer.Scanned.{Scanned}
+use Rattle.scan.specs.declared.answer.ScanRefusal.{ScanRefusal}
+use Rattle.scan.specs.declared.answer.ScanRefusal.TheVariants.{Spent, OutOfRange}
+use Rattle.scan.specs.Answers.{returned}
 use Rattle.scan.specs.Elements.{pattern}
 use Rattle.scan.specs.Rows.{unused, advanced}
 
@@ -50,29 +50,23 @@ module _ (ok : List ℕ → ℕ → Bool) (n m start : ℕ) where
     pub within : (k : ℕ) → k < i → (get_or rows k unused).end ≤ n
     pub suits : (k : ℕ) → k < i → ok (places start rows k) (get_or rows k unused).end ≡ true
 
-  -- what a walk back from row i finds: a row that moved on, and what is left then; or that nothing is left; or something to try, and no trial
-  abbrev pub Retreats : List Row → ℕ → ℕ → List Row → Resumed → Type 0
-  Retreats rows i trials after (At j e) =
-      (j < i) × (0 < trials) × (after ≡ slice_set rows j (advanced (slice_index_or rows j unused) (Some e))) × Standing after (suc j) × (behind rows i ≡ places start after (suc j) ∷ left after (suc j) 0)
-  Retreats rows i trials after Nowhere = behind rows i ≡ []
-  Retreats rows i trials after Spent = (trials ≡ 0) × (0 < count m (behind rows i))
-
--- how a scan from one start ends, where `tried` is all there is to try and `trials` are left:
--- with the first placing in the rows, or with none, and with so many trials left; or with too few trials
-abbrev pub Ends : ℕ → ℕ → List (List ℕ) → ℕ → List Row → Ended → Type 0
-Ends m start tried trials rows (Placed rest) = (first m tried ≡ Some (places start rows m)) × (count m tried + rest ≡ trials)
-Ends m start tried trials rows (Missed rest) = (first m tried ≡ None) × (count m tried + rest ≡ trials)
-Ends m start tried trials rows Exceeded = trials < count m tried
+  -- what a walk back from row i finds: a row that moved on to an end, and what is left then; or that nothing is left; or something to try, and no trial
+  abbrev pub Retreats : List Row → ℕ → ℕ → List Row → Result (Option (ℕ × ℕ)) ScanRefusal → Type 0
+  Retreats rows i trials after (Ok (Some at)) =
+      (at.0 < i) × (0 < trials) × (after ≡ slice_set rows at.0 (advanced (slice_index_or rows at.0 unused) (Some at.1))) × Standing after (suc at.0) × (behind rows i ≡ places start after (suc at.0) ∷ left after (suc at.0) 0)
+  Retreats rows i trials after (Ok None) = behind rows i ≡ []
+  Retreats rows i trials after (Err Spent) = (trials ≡ 0) × (0 < count m (behind rows i))
+  Retreats rows i trials after (Err OutOfRange) = ⊥
 
 -- whether an end may follow the places so far, a start at least: the mode has no say in it
 abbrev pub follows : {A : Type 0} → (A → A → Bool) → (A → Role) → List A → List A → List Element → List ℕ → ℕ → Bool
 follows eq role s constants elements = may eq role Unanchored s (pattern constants elements)
 
 -- what a walk back from row i finds, whatever the constants and the start are that the rows stand on
-abbrev pub WalksBack : {A : Type 0} → (A → A → Bool) → (A → Role) → List A → List Element → List Row → ℕ → ℕ → List Row → Resumed → Type 0
+abbrev pub WalksBack : {A : Type 0} → (A → A → Bool) → (A → Role) → List A → List Element → List Row → ℕ → ℕ → List Row → Result (Option (ℕ × ℕ)) ScanRefusal → Type 0
 WalksBack {A} eq role s elements rows i trials after r =
     (constants : List A) (start : ℕ) → Standing (follows eq role s constants elements) (length s) (length elements) start rows i → Retreats (follows eq role s constants elements) (length s) (length elements) start rows i trials after r
 
--- how a walk from one start ends: it tries all partial placings that go on from the start
-abbrev pub WalksFrom : {A : Type 0} → (A → A → Bool) → (A → Role) → List A → List A → List Element → ℕ → ℕ → List Row → Ended → Type 0
-WalksFrom eq role s constants elements start trials rows r = Ends (length elements) start (below (follows eq role s constants elements) (length s) (length elements) (start ∷ [])) trials rows r
+-- the answer of a scan from one start alone: what the enumeration of the partial placings that go on from it tells
+abbrev pub scan_from : {A : Type 0} → (A → A → Bool) → (A → Role) → List A → List A → List Element → ℕ → ℕ → Result Scanned ScanRefusal
+scan_from eq role s constants elements start trials = returned (answer (length elements) trials (below (follows eq role s constants elements) (length s) (length elements) (start ∷ [])))

@@ -9,7 +9,7 @@ use answer::{ScanRefusal, Scanned};
 use element::Element;
 use placings::mode::Mode;
 use range::in_range;
-use start::starts;
+use search::Search;
 use symbols::kind::Kind;
 
 pub mod answer;
@@ -19,6 +19,7 @@ mod end;
 mod part;
 mod range;
 mod row;
+mod search;
 mod start;
 mod step;
 mod walk;
@@ -39,7 +40,13 @@ pub fn scan<K: Kind>(
     if !in_range(constants.len(), elements, allowance) {
         return Err(ScanRefusal::OutOfRange);
     }
-    starts(kind, subject, constants, elements, mode, allowance)
+    let search = Search {
+        kind,
+        subject,
+        constants,
+        elements,
+    };
+    search.starts(mode, allowance)
 }
 
 #[cfg(test)]

@@ -5,25 +5,20 @@ ghost use Rattle.scan.specs.Rows.{compared_with, Readable};
 
 use crate::element::{Element, Source};
 use crate::row::Row;
+use crate::search::Search;
 use symbols::kind::Kind;
 
-// The part that an element is compared with: one of the constants, or of the subject for a back reference; null for an element that is compared with nothing.
-pub(crate) fn compared<'a, S>(
-    element: Element,
-    subject: &'a [S],
-    constants: &'a [S],
-    rows: &[Row; 8],
-) -> &'a [S]
-    requires { Readable (length subject.now) (length constants.now) rows.now element }
-    ensures { result.now ≡ compared_with subject.now constants.now rows.now element }
-{
-    match element {
-        Element::Compared(source) => match source {
-            Source::Constant { from, to } => &constants[from..to],
-            Source::Back(j) => &subject[rows[j].begin..rows[j].end],
-        },
-        Element::Fixed(_) => &constants[0..0],
-        Element::Free(_) => &constants[0..0],
+impl<'a, K: Kind> Search<'a, K> {
+    // The part that an element is compared with: one of the constants, or of the subject for a back reference; null for an element that is compared with nothing.
+    pub(crate) fn compared(&self, element: Element, rows: &[Row; 8]) -> &'a [K::Symbol]
+        requires { Readable (length self.now.subject.now) (length self.now.constants.now) rows.now element }
+        ensures { result.now ≡ compared_with self.now.subject.now self.now.constants.now rows.now element }
+    {
+        match element {
+            Element::Compared(Source::Constant { from, to }) => &self.constants[from..to],
+            Element::Compared(Source::Back(j)) => &self.subject[rows[j].begin..rows[j].end],
+            Element::Fixed(_) | Element::Free(_) => &[],
+        }
     }
 }
 
@@ -31,16 +26,5 @@ pub(crate) fn compared<'a, S>(
 pub(crate) fn equal<K: Kind>(kind: &K, a: &[K::Symbol], b: &[K::Symbol]) -> bool
     ensures { result ≡ same_parts K.Kind.equal a.now b.now }
 {
-    let n = a.len();
-    if n != b.len() {
-        return false;
-    }
-    let mut i: usize = 0;
-    while i < n {
-        if !kind.same(a[i], b[i]) {
-            return false;
-        }
-        i += 1;
-    }
-    true
+    a.len() == b.len() && a.iter().zip(b).all(|(x, y)| kind.same(*x, *y))
 }

@@ -10,12 +10,9 @@ fn element_fits(constants: usize, place: usize, element: Element) -> bool
     ensures { result ≡ fits constants place element }
 {
     match element {
-        Element::Compared(source) => match source {
-            Source::Constant { from, to } => from <= to && to <= constants,
-            Source::Back(j) => j < place,
-        },
-        Element::Fixed(_) => true,
-        Element::Free(_) => true,
+        Element::Compared(Source::Constant { from, to }) => from <= to && to <= constants,
+        Element::Compared(Source::Back(j)) => j < place,
+        Element::Fixed(_) | Element::Free(_) => true,
     }
 }
 
@@ -23,21 +20,17 @@ fn element_fits(constants: usize, place: usize, element: Element) -> bool
 fn elements_fit(constants: usize, elements: &[Element]) -> bool
     ensures { result ≡ all_fit constants 0 elements.now }
 {
-    for i in 0..elements.len() {
-        if !element_fits(constants, i, elements[i]) {
-            return false;
-        }
-    }
-    true
+    elements
+        .iter()
+        .enumerate()
+        .all(|(i, element)| element_fits(constants, i, *element))
 }
 
 // Whether a scan can be made.
 pub(crate) fn in_range(constants: usize, elements: &[Element], allowance: usize) -> bool
     ensures { result ≡ in_range constants elements.now allowance }
 {
-    1 <= elements.len()
-        && elements.len() <= 8
-        && 1 <= allowance
-        && allowance <= 1_000_000
+    (1..=8).contains(&elements.len())
+        && (1..=1_000_000).contains(&allowance)
         && elements_fit(constants, elements)
 }

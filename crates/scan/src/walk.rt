@@ -1,102 +1,108 @@
 // The walk of a scan from one start: forward over the elements, and back where one finds no end.
-ghost use Rattle.std.specs.Prelude.{◌≡◌, ◌<◌, ◌≤◌, true, length};
-ghost use Rattle.scan.specs.Elements.{all_fit};
-ghost use Rattle.scan.specs.Left.{WalksBack, WalksFrom};
+ghost use Rattle.std.specs.Prelude.{◌≡◌, ◌<◌, ◌≤◌, length, take};
+ghost use Rattle.scan.specs.Answers.{eight, placed};
+ghost use Rattle.scan.specs.Left.{WalksBack, ends, places, scan_from};
 ghost use Rattle.scan.specs.Rows.{Parted};
 
-use crate::element::Element;
-use crate::end::{advance, enter};
-use crate::part::compared;
+use crate::answer::{Placed, ScanRefusal, Scanned, Verdict};
 use crate::row::Row;
+use crate::search::Search;
 use crate::step::{Move, step};
 use symbols::kind::Kind;
 
-// How a walk back ends: at a row that moved on to an end, or before the first row, or out of trials.
-#[derive(Clone, Copy)]
-pub enum Resumed {
-    At(usize, usize),
-    Nowhere,
-    Spent,
-}
-
-// How the walk from one start ends: with a placing or with none, and the trials left; or with too few trials.
-#[derive(Clone, Copy)]
-pub enum Ended {
-    Placed(usize),
-    Missed(usize),
-    Exceeded,
-}
-
-// Walks back from the row `from` to the nearest one before it that can move its end on.
-fn retreat<K: Kind>(
-    rows: &mut [Row; 8],
-    from: usize,
-    left: usize,
-    kind: &K,
-    subject: &[K::Symbol],
-    elements: &[Element],
-) -> Resumed
-    requires { (from < length elements.now) × ((length elements.now ≤ 8) × (Parted (length subject.now) rows.old from)) }
-    ensures { WalksBack K.Kind.equal (K.Kind.acts kind.now) subject.now elements.now rows.old from left rows.new result }
+// The ends of the first `count` rows, and 0 beyond.
+fn row_ends(rows: &[Row; 8], count: usize) -> [usize; 8]
+    requires { count ≤ 8 }
+    ensures { result ≡ eight (take count (ends rows.now)) }
 {
-    let mut i = from;
-    while i > 0 {
-        i -= 1;
-        match step(
-            false,
-            left,
-            advance(&mut rows[i], kind, subject, elements[i]),
-        ) {
-            Move::Forward(e) => return Resumed::At(i, e),
-            Move::Back => {}
-            // No row before the last one is ever done.
-            Move::Done => return Resumed::Nowhere,
-            Move::Spent => return Resumed::Spent,
-        }
+    let mut all = [0usize; 8];
+    for (i, row) in rows[..count].iter().enumerate() {
+        all[i] = row.end;
     }
-    Resumed::Nowhere
+    all
 }
 
-// Walks from one start, with so many trials left.
-pub(crate) fn from_start<K: Kind>(
-    rows: &mut [Row; 8],
-    start: usize,
-    trials: usize,
-    kind: &K,
-    subject: &[K::Symbol],
-    constants: &[K::Symbol],
-    elements: &[Element],
-) -> Ended
-    requires { (start ≤ length subject.now) × ((0 < length elements.now) × ((length elements.now ≤ 8) × (all_fit (length constants.now) 0 elements.now ≡ true))) }
-    ensures { WalksFrom K.Kind.equal (K.Kind.acts kind.now) subject.now constants.now elements.now start trials rows.new result }
+// The placing that the rows hold.
+fn placing(start: usize, rows: &[Row; 8], count: usize) -> Placed
+    requires { count ≤ 8 }
+    ensures { result ≡ placed (places start rows.now count) }
 {
-    let mut left = trials;
-    let mut i: usize = 0;
-    let mut begin = start;
-    loop {
-        let last = i + 1 == elements.len();
-        let other = compared(elements[i], subject, constants, rows);
-        match step(
-            last,
-            left,
-            enter(&mut rows[i], kind, subject, elements[i], other, last, begin),
-        ) {
-            Move::Forward(e) => {
-                begin = e;
-                i += 1;
-                left -= 1;
+    Placed {
+        start,
+        count,
+        ends: row_ends(rows, count),
+    }
+}
+
+impl<K: Kind> Search<'_, K> {
+    // Walks back from the row `from` to the nearest one before it that can move its end on: that row and its end, if there is one.
+    fn retreat(
+        &self,
+        rows: &mut [Row; 8],
+        from: usize,
+        left: usize,
+    ) -> Result<Option<(usize, usize)>, ScanRefusal>
+        requires { (from < length self.now.elements.now) × (Parted (length self.now.subject.now) rows.old from) }
+        ensures { WalksBack K.Kind.equal (K.Kind.acts self.now.kind.now) self.now.subject.now self.now.elements.now rows.old from left rows.new result }
+    {
+        for i in (0..from).rev() {
+            match step(false, left, self.advance(&mut rows[i], self.elements[i])) {
+                Move::Forward(end) => return Ok(Some((i, end))),
+                Move::Back => {}
+                Move::Done => unreachable!(),
+                Move::Spent => return Err(ScanRefusal::Spent),
             }
-            Move::Back => match retreat(rows, i, left, kind, subject, elements) {
-                Resumed::At(j, e) => {
-                    begin = e;
+        }
+        Ok(None)
+    }
+
+    // Scans from one start alone, within so many trials.
+    pub(crate) fn from_start(
+        &self,
+        rows: &mut [Row; 8],
+        start: usize,
+        trials: usize,
+    ) -> Result<Scanned, ScanRefusal>
+        requires { start ≤ length self.now.subject.now }
+        ensures { result ≡ scan_from K.Kind.equal (K.Kind.acts self.now.kind.now) self.now.subject.now self.now.constants.now self.now.elements.now start trials }
+    {
+        let count = self.elements.len();
+        let mut left = trials;
+        let mut i: usize = 0;
+        let mut begin = start;
+        loop {
+            let last = i + 1 == count;
+            let element = self.elements[i];
+            let other = self.compared(element, rows);
+            match step(
+                last,
+                left,
+                self.enter(&mut rows[i], element, other, last, begin),
+            ) {
+                Move::Forward(end) => {
+                    begin = end;
+                    i += 1;
+                    left -= 1;
+                }
+                Move::Back => {
+                    let Some((j, end)) = self.retreat(rows, i, left)? else {
+                        return Ok(Scanned {
+                            verdict: Verdict::Failure,
+                            trials: trials - left,
+                        });
+                    };
+                    begin = end;
                     i = j + 1;
                     left -= 1;
                 }
-                Resumed::Nowhere => return Ended::Missed(left),
-                Resumed::Spent => return Ended::Exceeded,
-            },
-            Move::Done => return Ended::Placed(left - 1),
-            Move::Spent => return Ended::Exceeded,
+                Move::Done => {
+                    return Ok(Scanned {
+                        verdict: Verdict::Success(placing(start, rows, count)),
+                        trials: trials - (left - 1),
+                    });
+                }
+                Move::Spent => return Err(ScanRefusal::Spent),
+            }
         }
     }
 }

@@ -7,27 +7,27 @@ use Rattle.scan.proofs.balance.tally.Goals as goal
 
 pub overflow_add-opened : goal.overflow_add-opened
 overflow_add-opened g c =
-    let few = openings_few (g.K.Kind.acts c.args.kind.now) (take c.loop-i.i c.args.block.now) in
-    let long = length-take-le c.loop-i.i c.args.block.now (omega arith) in
+    let few = openings_few (g.K.Kind.acts c.args.kind.now) (take c.loop-symbol.symbol-index c.args.block.now) in
+    let long = length-take-le c.loop-symbol.symbol-index c.args.block.now (omega arith) in
     let one = opens_one c.role-role.result in
-    let h : c.loop-i.opened + c.opening-opened.result ≤ 64 = omega arith in
+    let h : c.loop-symbol.opened + c.opening-opened.result ≤ 64 = omega arith in
     Fits-below {n = 64} tt h
 
 pub overflow_add-closed : goal.overflow_add-closed
 overflow_add-closed g c =
-    let few = closings_few (g.K.Kind.acts c.args.kind.now) (take c.loop-i.i c.args.block.now) in
-    let long = length-take-le c.loop-i.i c.args.block.now (omega arith) in
+    let few = closings_few (g.K.Kind.acts c.args.kind.now) (take c.loop-symbol.symbol-index c.args.block.now) in
+    let long = length-take-le c.loop-symbol.symbol-index c.args.block.now (omega arith) in
     let one = closes_one c.role-role.result in
-    let h : c.loop-i.closed + c.closing-closed.result ≤ 64 = omega arith in
+    let h : c.loop-symbol.closed + c.closing-closed.result ≤ 64 = omega arith in
     Fits-below {n = 64} tt h
 
-pub loop-i-preserved : goal.loop-i-preserved
-loop-i-preserved g c =
+pub loop-symbol-preserved : goal.loop-symbol-preserved
+loop-symbol-preserved g c =
     let role = g.K.Kind.acts c.args.kind.now in
     let block = c.args.block.now in
-    let l : c.loop-i.i < length block = omega arith in
-    let a = openings_more role block c.loop-i.i c.index-block-i.result l c.index-block-i.is in
-    let b = closings_more role block c.loop-i.i c.index-block-i.result l c.index-block-i.is in
+    let l : c.loop-symbol.symbol-index < length block = omega arith in
+    let a = openings_more role block c.loop-symbol.symbol-index c.symbol-item.result l c.symbol-item.is in
+    let b = closings_more role block c.loop-symbol.symbol-index c.symbol-item.result l c.symbol-item.is in
     let x = c.opening-opened.ensures ∙ ap opens c.role-role.ensures in
     let y = c.closing-closed.ensures ∙ ap closes c.role-role.ensures in
     (omega arith, omega arith)
@@ -35,5 +35,5 @@ loop-i-preserved g c =
 pub returns : goal.returns
 returns g c =
     let role = g.K.Kind.acts c.args.kind.now in
-    let all = take_all c.loop-i.i c.args.block.now (omega arith) in
-    record { opened = c.loop-i.invariant.0 ∙ ap (openings role) all; closed = c.loop-i.invariant.1 ∙ ap (closings role) all }
+    let all = take_all c.loop-symbol.symbol-index c.args.block.now (omega arith) in
+    record { opened = c.loop-symbol.invariant.0 ∙ ap (openings role) all; closed = c.loop-symbol.invariant.1 ∙ ap (closings role) all }

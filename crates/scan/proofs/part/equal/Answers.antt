@@ -1,22 +1,12 @@
-use Rattle.std.proofs.Common.{◌+◌, ◌<◌, ◌&&◌, length, drop, sym, ap, ◌∙◌, arith}
-use Rattle.std.proofs.lemmas.Bool.{and_left}
-use Rattle.placings.specs.Enumeration.{same_parts}
-use Rattle.scan.proofs.Parts.{same_lengths, same_more, same_all}
+use Rattle.std.proofs.Common.{◌∙◌}
+use borrow.Author.Tests.{tests}
+use Rattle.std.proofs.Common.{rules}
+use Rattle.std.proofs.lemmas.Iterator.{YieldsList-from_slice, YieldsList-from_zip}
+use Rattle.std.proofs.lemmas.Iterator.Search.{all_from_yields_List}
+use Rattle.scan.proofs.Parts.{same_zipped}
 use Rattle.scan.proofs.part.equal.Goals as goal
 
-pub returns-then-n-b : goal.returns-then-n-b
-returns-then-n-b g c = sym (same_lengths _ _ _ c.if-n-b.true)
-
-pub returns-then-not-same : goal.returns-then-not-same
-returns-then-not-same g c =
-    let m : c.loop-i.i < length c.args.b.now = omega arith in
-    sym (c.loop-i.invariant ∙ same_more g.K.Kind.equal c.args.a.now c.args.b.now _ _ _ c.loop-i-test.true m c.index-a-i.is c.index-b-i.is ∙ and_left _ _ (sym c.if-not-same.ensures))
-
-pub loop-i-preserved : goal.loop-i-preserved
-loop-i-preserved g c =
-    let m : c.loop-i.i < length c.args.b.now = omega arith in
-    c.loop-i.invariant ∙ same_more g.K.Kind.equal c.args.a.now c.args.b.now _ _ _ c.loop-i-test.true m c.index-a-i.is c.index-b-i.is
-    ∙ ap (λ b. b && same_parts g.K.Kind.equal (drop (c.loop-i.i + 1) c.args.a.now) (drop (c.loop-i.i + 1) c.args.b.now)) (sym c.if-not-same.ensures)
-
-pub returns : goal.returns
-returns g c = sym (c.loop-i.invariant ∙ same_all g.K.Kind.equal _ _ _ c.loop-i-test.false c.if-n-b.false)
+pub returns-then-a-b : goal.returns-then-a-b
+returns-then-a-b g c =
+    all_from_yields_List (λ p. g.K.Kind.equal p.0 p.1) c.all.new.self _ _ c.all.ensures.ran (YieldsList-from_zip (YieldsList-from_slice c.args.a.now (cc)) (YieldsList-from_slice c.args.b.now (cc))) (λ x b q k. search (rules, tests))
+    ∙ same_zipped g.K.Kind.equal c.args.a.now c.args.b.now c.if-a-b.true

@@ -54,3 +54,17 @@ opened fitted sheet names room =
       entries = [];
       room = room;
     }
+
+-- a session that has recorded so many entries
+abbrev pub with_recorded : {K S : Type 0} → Session K S → ℕ → Session K S
+with_recorded s n =
+    record {
+      kind = s.kind;
+      store = s.store;
+      counts = s.counts;
+      start = s.start;
+      admitted = s.admitted;
+      mode = s.mode;
+      next = s.next;
+      recorded = n;
+    }

@@ -1,11 +1,10 @@
 -- The step of a session: the statement that is next, carried out. Assumes nothing.
-use Rattle.std.specs.Prelude.{ℕ, zero, suc, ◌*◌, Bool, cond, ◌&&◌, ◌||◌, List, [], ◌∷◌, Some, None, Ok, Err, Option, Result, nat_le, nat_lt}
+use Rattle.std.specs.Prelude.{ℕ, zero, suc, ◌*◌, Bool, cond, ◌&&◌, ◌||◌, List, [], ◌∷◌, Some, None, Ok, Err, Option, Result, nat_le, nat_lt, slice_get}
 use Rattle.symbols.specs.declared.role.Role.{Role}
 use Rattle.scan.specs.declared.answer.Scanned.{Scanned}
 use Rattle.scan.specs.declared.answer.Verdict.{Verdict}
 use Rattle.scan.specs.declared.answer.Verdict.TheVariants as verdict
-use Rattle.tables.specs.declared.row.Next.{Next}
-use Rattle.tables.specs.declared.row.Next.TheVariants.{Statement, End}
+pub use Rattle.tables.specs.Rows.{number_of}
 use Rattle.tables.specs.Rows.{Row}
 use Rattle.tables.specs.declared.sheet.Tables.{Tables}
 use Rattle.tables.specs.Tables.{Tabled, tabled}
@@ -25,21 +24,10 @@ use Rattle.session.specs.Entries.{plain}
 use Rattle.session.specs.Refusals.{first_of, stated}
 use Rattle.session.specs.State.{State}
 
--- the element at a place, if there is one
-unfoldable pub at : {A : Type 0} → ℕ → List A → Option A
-at k [] = None
-at zero (x ∷ xs) = Some x
-at (suc k) (x ∷ xs) = at k xs
-
--- the number of the statement that is next; END has 0
-abbrev pub number_of : Next → ℕ
-number_of End = 0
-number_of (Statement k) = k
-
 -- the row of statement k, counted from 1
 abbrev pub row_of : List Row → ℕ → Option Row
 row_of rows zero = None
-row_of rows (suc k) = at k rows
+row_of rows (suc k) = slice_get rows k
 
 -- an allowance of trials that is not 1 to 1,000,000
 abbrev pub not_allowed : ℕ → Option Refusal

@@ -1,6 +1,11 @@
 // The entries of a record.
-ghost use Rattle.std.specs.Prelude.{◌≡◌, ◌+◌, ◌<◌, length, slice_set};
-ghost use Rattle.session.specs.Entries.{letter, plain};
+ghost use Rattle.std.specs.Prelude.{◌≡◌, [], ◌∷◌, Some};
+ghost use Rattle.session.specs.Entries.{letter, plain, blank, ends_in};
+ghost use Rattle.session.specs.Effects.{mode_kind};
+
+use placings::mode::Mode;
+use std::fmt;
+use tables::places::first_places;
 
 // What an accepted call was: a statement that succeeded or failed, a string given, a restart, or a choice of the mode.
 #[derive(Clone, Copy, PartialEq, Eq, Debug)]
@@ -13,24 +18,44 @@ pub enum EntryKind {
     Unanchored,
 }
 
-impl EntryKind {
-    // The letter by which a record shows the kind.
-    pub fn letter(self) -> u8
-        ensures { result ≡ letter self }
-    {
-        match self {
-            EntryKind::Success => b'S',
-            EntryKind::Failure => b'F',
-            EntryKind::Given => b'G',
-            EntryKind::Restarted => b'R',
-            EntryKind::Anchored => b'A',
-            EntryKind::Unanchored => b'U',
+// The letter by which a record shows the kind.
+impl From<EntryKind> for char {
+    ghost from_gives = { λ kind c. c ≡ letter kind };
+
+    fn from(kind: EntryKind) -> char {
+        match kind {
+            EntryKind::Success => 'S',
+            EntryKind::Failure => 'F',
+            EntryKind::Given => 'G',
+            EntryKind::Restarted => 'R',
+            EntryKind::Anchored => 'A',
+            EntryKind::Unanchored => 'U',
+        }
+    }
+}
+
+impl fmt::Display for EntryKind {
+    ghost output = { λ kind. Some (letter kind ∷ []) };
+
+    fn fmt<W: fmt::Write>(&self, f: &mut fmt::Formatter<W>) -> fmt::Result {
+        f.write_char(char::from(*self))
+    }
+}
+
+// The kind of entry that a choice of the mode adds.
+impl From<Mode> for EntryKind {
+    ghost from_gives = { λ mode kind. kind ≡ mode_kind mode };
+
+    fn from(mode: Mode) -> EntryKind {
+        match mode {
+            Mode::Anchored => EntryKind::Anchored,
+            Mode::Unanchored => EntryKind::Unanchored,
         }
     }
 }
 
 // An accepted call: the number of its statement or name, and for a success the placing: its start, and the ends of its elements in the first places.
-#[derive(Clone, Copy)]
+#[derive(Clone, Copy, PartialEq, Eq, Debug)]
 pub struct Entry {
     pub kind: EntryKind,
     pub number: usize,
@@ -39,32 +64,48 @@ pub struct Entry {
     pub ends: [usize; 8],
 }
 
-// An entry without a placing.
-pub(crate) fn plain_entry(kind: EntryKind, number: usize) -> Entry
-    ensures { result ≡ plain kind number }
-{
-    Entry {
-        kind,
-        number,
-        start: 0,
-        count: 0,
-        ends: [0; 8],
+impl Entry {
+    // An entry without a placing.
+    pub(crate) fn plain(kind: EntryKind, number: usize) -> Entry
+        ensures { result ≡ plain kind number }
+    {
+        Entry {
+            kind,
+            number,
+            start: 0,
+            count: 0,
+            ends: [0; 8],
+        }
+    }
+
+    // The ends of the elements of a placing.
+    pub fn ends(&self) -> &[usize]
+        ensures { result.now ≡ ends_in self.now }
+    {
+        first_places(&self.ends, self.count)
     }
 }
 
-// An entry to fill a record area with.
-pub fn blank_entry() -> Entry
-    ensures { result ≡ plain EntryKind.Restarted 0 }
-{
-    plain_entry(EntryKind::Restarted, 0)
+// What a record area is filled with.
+impl Default for Entry {
+    ghost is_default = { λ entry. entry ≡ blank };
+
+    fn default() -> Entry {
+        Entry::plain(EntryKind::Restarted, 0)
+    }
 }
 
-// Writes an entry behind those recorded, and tells how many there are then.
-pub(crate) fn note(area: &mut [Entry], recorded: usize, entry: Entry) -> usize
-    requires { recorded < length area.old }
-    ensures count { result ≡ recorded + 1 }
-    ensures area { area.new ≡ slice_set area.old recorded entry }
-{
-    area[recorded] = entry;
-    recorded + 1
+impl fmt::Display for Entry {
+    fn fmt<W: fmt::Write>(&self, f: &mut fmt::Formatter<W>) -> fmt::Result {
+        let (kind, number, start) = (self.kind, self.number, self.start);
+        write!(f, "{kind} {number}")?;
+        let ends = self.ends();
+        if !ends.is_empty() {
+            write!(f, " {start}")?;
+        }
+        for end in ends {
+            write!(f, " {end}")?;
+        }
+        Ok(())
+    }
 }

@@ -1,8 +1,11 @@
 // Why a session refuses a call.
-ghost use Rattle.std.specs.Prelude.{◌≡◌};
+ghost use Rattle.std.specs.Prelude.{◌≡◌, Some, None, cond};
+ghost use Rattle.symbols.specs.Answers.{answered};
 ghost use Rattle.session.specs.Refusals.{refusal_number, stored, stated};
 
 use statements::refusal::StatementRefusal;
+use std::error::Error;
+use std::fmt;
 use stores::refusal::StoreRefusal;
 
 #[derive(Clone, Copy, PartialEq, Eq, Debug)]
@@ -25,7 +28,32 @@ impl Refusal {
     {
         self as u8
     }
+
+    // Refuses, unless something holds.
+    pub(crate) fn unless(self, holds: bool) -> Result<(), Refusal>
+        ensures { result ≡ answered (cond holds None (Some self)) tt }
+    {
+        if holds { Ok(()) } else { Err(self) }
+    }
 }
+
+impl fmt::Display for Refusal {
+    fn fmt<W: fmt::Write>(&self, f: &mut fmt::Formatter<W>) -> fmt::Result {
+        f.write_str(match self {
+            Refusal::AtEnd => "END is next",
+            Refusal::RecordFull => "the record area takes no more entries",
+            Refusal::ShortArea => "an area is too short",
+            Refusal::NoName => "`$` yields no name or label of the sheet",
+            Refusal::Spent => "the trials of the scan are more than the allowance",
+            Refusal::TooLong => "a string or all strings together would be too long",
+            Refusal::OutOfRange => "a number is out of its range",
+            Refusal::NoWord => "a mode other than ANCHOR and UNANCHOR",
+            Refusal::Unfit => "the tables do not fit",
+        })
+    }
+}
+
+impl Error for Refusal {}
 
 impl From<StoreRefusal> for Refusal {
     ghost from_gives = { λ e r. r ≡ stored e };

@@ -1,12 +1,12 @@
 // A session: opening and closing it, and its calls but for the step.
-ghost use Rattle.std.specs.Prelude.{◌≡◌, List, [], length};
+ghost use Rattle.std.specs.Prelude.{◌≡◌, ◌+◌, ◌<◌, List, [], length, slice_set};
 ghost use Rattle.symbols.specs.Answers.{answered};
 ghost use Rattle.session.specs.declared.entry.Entry.{Entry};
-ghost use Rattle.session.specs.State.{state, opened};
+ghost use Rattle.session.specs.State.{state, opened, with_recorded};
 ghost use Rattle.session.specs.Calls.{opens, fits, unfit, unknown, full, mode_word, open_refusal, give_refusal, word_refusal, restart_refusal, look_answer, after_look, found};
-ghost use Rattle.session.specs.Effects.{Leaves, mode_kind, give_effect, mode_effect, restart_effect};
+ghost use Rattle.session.specs.Effects.{Leaves, give_effect, mode_effect, restart_effect};
 
-use crate::entry::{Entry, EntryKind, note, plain_entry};
+use crate::entry::{Entry, EntryKind};
 use crate::refusal::Refusal;
 use checks::admit::admits;
 use placings::mode::Mode;
@@ -17,6 +17,7 @@ use tables::row::{Next, Row};
 use tables::sheet::{Counts, Sheet, Tables};
 
 // What a session keeps between calls. It is no `Drop`, so that it ends by `close`, which gives the store back.
+// `admitted` guards the calls and no values, so that it stands beside them: a session opened against the check has its start and its mode too.
 pub struct Session<K, S> {
     pub(crate) kind: K,
     pub(crate) store: S,
@@ -36,16 +37,6 @@ fn mode_of(word: &str) -> Option<Mode>
         "ANCHOR" => Some(Mode::Anchored),
         "UNANCHOR" => Some(Mode::Unanchored),
         _ => None,
-    }
-}
-
-// The kind of entry that a choice of the mode adds.
-fn kind_of(mode: Mode) -> EntryKind
-    ensures { result ≡ mode_kind mode }
-{
-    match mode {
-        Mode::Anchored => EntryKind::Anchored,
-        Mode::Unanchored => EntryKind::Unanchored,
     }
 }
 
@@ -72,10 +63,7 @@ pub fn check<'a, S: Store>(
         rows,
         constants,
     };
-    if is_admitted(store, tables) {
-        return Ok(());
-    }
-    Err(Refusal::Unfit)
+    Refusal::Unfit.unless(is_admitted(store, tables))
 }
 
 impl<K: Kind + Drop, S: Store<Symbol = K::Symbol>> Session<K, S> {
@@ -132,31 +120,32 @@ impl<K: Kind + Drop, S: Store<Symbol = K::Symbol>> Session<K, S> {
     fn check_fit(&self) -> Result<(), Refusal>
         ensures { result ≡ answered (unfit self.now.admitted) tt }
     {
-        if self.admitted {
-            Ok(())
-        } else {
-            Err(Refusal::Unfit)
-        }
+        Refusal::Unfit.unless(self.admitted)
     }
 
     // Refuses a number that no name of the sheet has.
     fn check_number(&self, number: usize) -> Result<(), Refusal>
         ensures { result ≡ answered (unknown (state S.Store.held self.now []) number) tt }
     {
-        if number >= 1 && number <= self.counts.names {
-            return Ok(());
-        }
-        Err(Refusal::OutOfRange)
+        Refusal::OutOfRange.unless(self.counts.has_name(number))
     }
 
     // Refuses an area that takes no more entries.
+    #[tactic(auto, unfolding(crate::specs::Calls::full))]
     pub(crate) fn check_room(&self, entries: &[Entry]) -> Result<(), Refusal>
         ensures { result ≡ answered (full (state S.Store.held self.now entries.now)) tt }
     {
-        if self.recorded >= entries.len() {
-            return Err(Refusal::RecordFull);
-        }
-        Ok(())
+        Refusal::RecordFull.unless(self.recorded < entries.len())
+    }
+
+    // Writes an entry behind those recorded.
+    pub(crate) fn note(&mut self, entries: &mut [Entry], entry: Entry)
+        requires { self.old.recorded < length entries.old }
+        ensures session { self.new ≡ with_recorded self.old (self.old.recorded + 1) }
+        ensures area { entries.new ≡ slice_set entries.old self.old.recorded entry }
+    {
+        entries[self.recorded] = entry;
+        self.recorded += 1;
     }
 
     // Starts the sheet again.
@@ -168,7 +157,7 @@ impl<K: Kind + Drop, S: Store<Symbol = K::Symbol>> Session<K, S> {
         self.check_fit()?;
         self.check_room(entries)?;
         self.next = self.start;
-        self.recorded = note(entries, self.recorded, plain_entry(EntryKind::Restarted, 0));
+        self.note(entries, Entry::plain(EntryKind::Restarted, 0));
         Ok(())
     }
 
@@ -187,11 +176,7 @@ impl<K: Kind + Drop, S: Store<Symbol = K::Symbol>> Session<K, S> {
         self.check_number(number)?;
         self.check_room(entries)?;
         self.store.put(number, string)?;
-        self.recorded = note(
-            entries,
-            self.recorded,
-            plain_entry(EntryKind::Given, number),
-        );
+        self.note(entries, Entry::plain(EntryKind::Given, number));
         Ok(())
     }
 
@@ -205,7 +190,7 @@ impl<K: Kind + Drop, S: Store<Symbol = K::Symbol>> Session<K, S> {
         let mode = mode_of(word).ok_or(Refusal::NoWord)?;
         self.check_room(entries)?;
         self.mode = mode;
-        self.recorded = note(entries, self.recorded, plain_entry(kind_of(mode), 0));
+        self.note(entries, Entry::plain(EntryKind::from(mode), 0));
         Ok(())
     }
 
@@ -219,21 +204,19 @@ impl<K: Kind + Drop, S: Store<Symbol = K::Symbol>> Session<K, S> {
         Ok(self.store.fetch(number, area)?)
     }
 
-    // Whether lent tables are fit to work with.
-    pub(crate) fn is_fit(&self, tables: Tables<K::Symbol>) -> bool
-        ensures { result ≡ fits (state S.Store.held self.now []) tables.entry }
+    // Refuses lent tables that are not fit to work with.
+    pub(crate) fn check_tables(&self, tables: Tables<K::Symbol>) -> Result<(), Refusal>
+        ensures { result ≡ answered (unfit (fits (state S.Store.held self.now []) tables.entry)) tt }
     {
         let limits = self.store.tell();
-        self.admitted && admits(limits.names, self.counts, tables)
+        Refusal::Unfit.unless(self.admitted && admits(limits.names, self.counts, tables))
     }
 
     // The number of a name by its characters, if the tables fit and have it.
     pub fn find(&self, tables: Tables<K::Symbol>, chars: &[u8]) -> Option<usize>
         ensures { result ≡ found (state S.Store.held self.now []) tables.entry chars.now }
     {
-        if self.is_fit(tables) {
-            return find_name(&tables.sheet.names, chars);
-        }
-        None
+        self.check_tables(tables).ok()?;
+        find_name(&tables.sheet.names, chars)
     }
 }

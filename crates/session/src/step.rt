@@ -8,9 +8,9 @@ ghost use Rattle.session.specs.Effects.{Leaves};
 ghost use Rattle.session.specs.Refusals.{first_of};
 ghost use Rattle.session.specs.Says.{StepSays};
 ghost use Rattle.session.specs.State.{state};
-ghost use Rattle.session.specs.Steps.{number_of, row_of, not_allowed, too_short, ready, step, step_answer, verdict_entry, step_effect, work};
+ghost use Rattle.session.specs.Steps.{row_of, not_allowed, too_short, ready, step, step_answer, verdict_entry, step_effect, work};
 
-use crate::entry::{Entry, EntryKind, note, plain_entry};
+use crate::entry::{Entry, EntryKind};
 use crate::refusal::Refusal;
 use crate::session::Session;
 use checks::admit::admits;
@@ -19,7 +19,8 @@ use statements::carry::carry_out;
 use statements::listing::Listing;
 use stores::store::Store;
 use symbols::kind::Kind;
-use tables::row::{Next, Row};
+use tables::places::first_places;
+use tables::row::Row;
 use tables::sheet::Tables;
 
 // How many symbols the work areas take: for the scanned string, for the pattern's constants, and for the new contents.
@@ -34,22 +35,10 @@ pub struct Work {
 fn listing<'a, T>(tables: Tables<'a, T>) -> Listing<'a, T>
     ensures { listed result ≡ tabled tables.entry }
 {
-    let statements = tables.sheet.statements.min(tables.rows.len());
-    let constants = tables.sheet.constants.min(tables.constants.len());
     Listing {
         names: &tables.sheet.names,
-        rows: &tables.rows[0..statements],
-        constants: &tables.constants[0..constants],
-    }
-}
-
-// The number of a statement; END has 0.
-fn number_of(next: Next) -> usize
-    ensures { result ≡ number_of next }
-{
-    match next {
-        Next::Statement(number) => number,
-        Next::End => 0,
+        rows: first_places(tables.rows, tables.sheet.statements),
+        constants: first_places(tables.constants, tables.sheet.constants),
     }
 }
 
@@ -57,22 +46,13 @@ fn number_of(next: Next) -> usize
 fn row_of(rows: &[Row], number: usize) -> Option<Row>
     ensures { result ≡ row_of rows.now number }
 {
-    if number == 0 {
-        return None;
-    }
-    if number > rows.len() {
-        return None;
-    }
-    Some(rows[number - 1])
+    rows.get(number.checked_sub(1)?).copied()
 }
 
 fn check_allowance(allowance: usize) -> Result<(), Refusal>
     ensures { result ≡ answered (not_allowed allowance) tt }
 {
-    if allowance < 1 || allowance > 1_000_000 {
-        return Err(Refusal::OutOfRange);
-    }
-    Ok(())
+    Refusal::OutOfRange.unless((1..=1_000_000).contains(&allowance))
 }
 
 // Refuses work areas that do not serve strings of at most `longest` symbols, which is at most 4,096.
@@ -80,10 +60,9 @@ fn check_areas(longest: usize, work: Work) -> Result<(), Refusal>
     requires { longest ≤ 4096 }
     ensures { result ≡ answered (too_short longest work) tt }
 {
-    if work.string < longest || work.constants < 8 * longest || work.contents < longest {
-        return Err(Refusal::ShortArea);
-    }
-    Ok(())
+    Refusal::ShortArea.unless(
+        longest <= work.string && 8 * longest <= work.constants && longest <= work.contents,
+    )
 }
 
 // The entry of a statement: S with its placing, or F.
@@ -101,7 +80,7 @@ fn verdict_entry(number: usize, verdict: Verdict) -> Entry
                 ends,
             }
         }
-        Verdict::Failure => plain_entry(EntryKind::Failure, number),
+        Verdict::Failure => Entry::plain(EntryKind::Failure, number),
     }
 }
 
@@ -110,9 +89,7 @@ impl<K: Kind + Drop, S: Store<Symbol = K::Symbol>> Session<K, S> {
     fn check_step(&self, tables: Tables<K::Symbol>, allowance: usize) -> Result<(), Refusal>
         ensures { result ≡ answered (first_of (unfit (fits (state S.Store.held self.now []) tables.entry)) (not_allowed allowance)) tt }
     {
-        if !self.is_fit(tables) {
-            return Err(Refusal::Unfit);
-        }
+        self.check_tables(tables)?;
         check_allowance(allowance)
     }
 
@@ -136,9 +113,8 @@ impl<K: Kind + Drop, S: Store<Symbol = K::Symbol>> Session<K, S> {
         ensures { result ≡ ready (state S.Store.held self.now entries.now) allowance work tables.entry }
     {
         self.check_step(tables, allowance)?;
-        let Some(row) = row_of(listing(tables).rows, number_of(self.next)) else {
-            return Err(Refusal::AtEnd);
-        };
+        let rows = first_places(tables.rows, tables.sheet.statements);
+        let row = row_of(rows, self.next.number()).ok_or(Refusal::AtEnd)?;
         self.check_work(entries, work)?;
         Ok(row)
     }
@@ -164,11 +140,12 @@ impl<K: Kind + Drop, S: Store<Symbol = K::Symbol>> Session<K, S> {
             contents: contents.len(),
         };
         let row = self.ready(tables, allowance, entries, work)?;
-        let number = number_of(self.next);
+        let number = self.next.number();
         let mode = self.mode;
+        let listing = listing(tables);
         let done = carry_out(
             &self.kind,
-            listing(tables),
+            listing,
             &row,
             number,
             mode,
@@ -179,11 +156,7 @@ impl<K: Kind + Drop, S: Store<Symbol = K::Symbol>> Session<K, S> {
             contents,
         )?;
         self.next = done.next;
-        self.recorded = note(
-            entries,
-            self.recorded,
-            verdict_entry(number, done.scanned.verdict),
-        );
+        self.note(entries, verdict_entry(number, done.scanned.verdict));
         Ok(done.scanned)
     }
 }

@@ -3,6 +3,8 @@ use Rattle.std.specs.Prelude.{ℕ, Bool, false, List, take, ◌==◌}
 use Rattle.tables.specs.declared.name.Name.{Name}
 use Rattle.tables.specs.declared.row.Item.{Item}
 use Rattle.tables.specs.declared.row.Item.TheVariants.{Operand as operand, Variable}
+use Rattle.tables.specs.declared.row.Next.{Next}
+use Rattle.tables.specs.declared.row.Next.TheVariants.{Statement, End}
 use Rattle.tables.specs.declared.row.Operand.{Operand}
 use Rattle.tables.specs.declared.row.Pattern.{Pattern}
 use Rattle.tables.specs.declared.row.Reference.{Reference}
@@ -26,6 +28,11 @@ operands_in side = take side.count side.operands
 abbrev pub number_in : Reference → ℕ
 number_in (Named k) = k
 number_in (Through k) = k
+
+-- the number of the statement that is next; END has 0
+abbrev pub number_of : Next → ℕ
+number_of End = 0
+number_of (Statement k) = k
 
 -- whether an element is a variable with the name of number k
 abbrev pub is_variable : ℕ → Item → Bool

@@ -1,6 +1,6 @@
 // A statement as a row: numbers of names count from 1, and constants are parts of one area of symbols.
 ghost use Rattle.std.specs.Prelude.{◌≡◌, Some};
-ghost use Rattle.tables.specs.Rows.{items_in, operands_in, number_in, is_variable};
+ghost use Rattle.tables.specs.Rows.{items_in, operands_in, number_in, number_of, is_variable};
 ghost use Rattle.tables.specs.Words.{reference_words, operand_words, variable_words, item_words, next_words, target_words};
 
 use crate::limits::{MOST_ELEMENTS, MOST_OPERANDS};
@@ -118,6 +118,18 @@ impl fmt::Display for Item {
 pub enum Next {
     Statement(usize),
     End,
+}
+
+impl Next {
+    // The number of the statement that comes next; END has 0.
+    pub fn number(self) -> usize
+        ensures { result ≡ number_of self }
+    {
+        match self {
+            Next::Statement(number) => number,
+            Next::End => 0,
+        }
+    }
 }
 
 impl fmt::Display for Next {

@@ -51,8 +51,8 @@ returns-in_err-put g c =
     let is : give_refusal (state g.S.Store.held s area) c.args.number c.args.string.now ≡ Some _ = goes_on _ _ fits ∙ (goes_on _ _ known ∙ (goes_on _ _ room ∙ ap (option_map stored) refused)) in
     rw (p.1, p.2) (record { answer = ap (λ o. answered o tt) (sym is); leaves = kept g.S.Store.held s area c.put.new.self _ _ _ is (rw refused at c.put.ensures.after); kind = refl })
 
-pub note-self-requires : goal.note-self-requires
-note-self-requires g c =
+pub note-requires : goal.note-requires
+note-requires g c =
     let room = answered_ok _ _ _ _ c.in_ok-check_room.was c.check_room.ensures in
     room_left g.S.Store.held c.args.self.now c.args.entries.now room
 
@@ -67,6 +67,6 @@ returns g c =
     let is : give_refusal (state g.S.Store.held s area) c.args.number c.args.string.now ≡ None = goes_on _ _ fits ∙ (goes_on _ _ known ∙ (goes_on _ _ room ∙ ap (option_map stored) taken)) in
     record {
       answer = ap (λ o. answered o tt) (sym is);
-      leaves = done g.S.Store.held s area _ _ _ _ _ is (room_left g.S.Store.held s area room) c.note-self.ensures.count (c.note-self.ensures.area ∙ ap (set area s.recorded) c.plain_entry.ensures) (rw taken at c.put.ensures.after);
-      kind = refl;
+      leaves = rw c.note.ensures.session (done g.S.Store.held s area _ _ _ _ _ is (room_left g.S.Store.held s area room) refl (c.note.ensures.area ∙ ap (set area s.recorded) c.plain.ensures) (rw taken at c.put.ensures.after));
+      kind = rw c.note.ensures.session refl;
     }

@@ -27,8 +27,8 @@ returns-in_err-check_room g c =
     let is = ap (λ o. first_of o (full (state g.S.Store.held s area))) fits ∙ fills in
     rw (p.1, p.2) (record { answer = ap (λ o. answered o tt) (sym is); leaves = kept g.S.Store.held s area s.store _ _ _ is refl; kind = refl })
 
-pub note-self-requires : goal.note-self-requires
-note-self-requires g c =
+pub note-requires : goal.note-requires
+note-requires g c =
     let room = answered_ok _ _ _ _ c.in_ok-check_room.was c.check_room.ensures in
     room_left g.S.Store.held c.args.self.now c.args.entries.now room
 
@@ -41,6 +41,6 @@ returns g c =
     let is = ap (λ o. first_of o (full (state g.S.Store.held s area))) fits ∙ room in
     record {
       answer = ap (λ o. answered o tt) (sym is);
-      leaves = done g.S.Store.held s area _ _ _ _ _ is (room_left g.S.Store.held s area room) c.note-self.ensures.count (c.note-self.ensures.area ∙ ap (set area s.recorded) c.plain_entry.ensures) refl;
-      kind = refl;
+      leaves = rw c.note.ensures.session (done g.S.Store.held s area _ _ _ _ _ is (room_left g.S.Store.held s area room) refl (c.note.ensures.area ∙ ap (set area s.recorded) c.plain.ensures) refl);
+      kind = rw c.note.ensures.session refl;
     }

@@ -40,8 +40,8 @@ returns-in_err-check_room g c =
     let is : word_refusal (state g.S.Store.held s area) c.args.word.now ≡ Some _ = goes_on _ _ fits ∙ (goes_on _ _ (ap no_mode named) ∙ fills) in
     rw (p.1, p.2) (record { answer = ap (λ o. answered o tt) (sym is); leaves = kept g.S.Store.held s area s.store _ _ _ is refl; kind = refl })
 
-pub note-self-requires : goal.note-self-requires
-note-self-requires g c =
+pub note-requires : goal.note-requires
+note-requires g c =
     let room = answered_ok _ _ _ _ c.in_ok-check_room.was c.check_room.ensures in
     room_left g.S.Store.held c.args.self.now c.args.entries.now room
 
@@ -55,10 +55,10 @@ returns g c =
     let named = sym c.mode_of.ensures ∙ word_known c.mode_of.result _ _ c.ok_or.ensures.value c.in_ok-mode.was in
     let room = answered_ok _ _ _ _ c.in_ok-check_room.was c.check_room.ensures in
     let is : word_refusal before c.args.word.now ≡ None = goes_on _ _ fits ∙ (goes_on _ _ (ap no_mode named) ∙ room) in
-    let entry = c.plain_entry.ensures ∙ ap (λ k. plain k 0) c.kind_of.ensures in
-    let leaves = done g.S.Store.held s area s.store _ (chosen before mode) _ _ is (room_left g.S.Store.held s area room) c.note-self.ensures.count (c.note-self.ensures.area ∙ ap (set area s.recorded) entry) refl in
+    let entry = c.plain.ensures ∙ ap (λ k. plain k 0) c.from.ensures in
+    let leaves = done g.S.Store.held s area s.store _ (chosen before mode) _ _ is (room_left g.S.Store.held s area room) refl (c.note.ensures.area ∙ ap (set area s.recorded) entry) refl in
     record {
       answer = ap (λ o. answered o tt) (sym is);
-      leaves = chosen_word before _ area _ _ _ mode named leaves;
-      kind = refl;
+      leaves = rw c.note.ensures.session (chosen_word before _ area _ _ _ mode named leaves);
+      kind = rw c.note.ensures.session refl;
     }

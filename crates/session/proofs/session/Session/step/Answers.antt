@@ -23,7 +23,7 @@ carry_out-requires g c =
     let st = state g.S.Store.held s c.args.entries.now in
     let clear = ready_clears st c.args.allowance _ c.args.tables c.in_ok-row.row (sym c.in_ok-row.ensures) in
     record {
-      carriable = clears_carriable st c.args.allowance _ c.args.tables c.in_ok-row.row clear _ (ap (λ (t : Tabled _). t.names) c.listing.ensures);
+      carriable = clears_carriable st c.args.allowance _ c.args.tables c.in_ok-row.row clear _ (ap (λ (t : Tabled _). t.names) c.listing-listing.ensures);
       low = clear.low;
       high = clear.high;
       string = clear.string;
@@ -41,12 +41,12 @@ returns-in_err-done g c =
     let tables = tabled c.args.tables in
     let p = err_from_is_err_and c.from_residual-in_err-done.result c.from_residual-in_err-done.ensures.1 in
     let ready = ap (carried_from g.K.Kind.equal role g.K.Kind.chars st c.args.allowance tables) (sym c.in_ok-row.ensures) in
-    let r = refused_at g.K.Kind.equal role s.mode c.args.allowance g.K.Kind.chars names c.in_ok-row.row _ tables c.listing.ensures _ (number_of s.next) c.number_of-number.ensures _ c.in_err-done.ensures.after _ c.in_err-done.ensures.answer in
+    let r = refused_at g.K.Kind.equal role s.mode c.args.allowance g.K.Kind.chars names c.in_ok-row.row _ tables c.listing-listing.ensures _ (number_of s.next) c.number-number.ensures _ c.in_err-done.ensures.after _ c.in_err-done.ensures.answer in
     let is = ready ∙ r.0 in
     rw (p.1, p.2) (record { answer = ap step_answer (sym is); says = step_says g.K.Kind.equal g.met.K.Kind.decides (g.K.Kind.acts s.kind) g.K.Kind.chars st c.args.allowance c.args.tables _ _ (ap step_answer (sym is)); leaves = refused_leaves g.S.Store.held s area c.carry_out.new.store _ _ (ap (step_effect st) is) r.1; kind = refl })
 
-pub note-self-requires : goal.note-self-requires
-note-self-requires g c =
+pub note-requires : goal.note-requires
+note-requires g c =
     let s = c.args.self.now in
     let area = c.args.entries.now in
     let clear = ready_clears (state g.S.Store.held s area) c.args.allowance _ c.args.tables c.in_ok-row.row (sym c.in_ok-row.ensures) in
@@ -64,11 +64,11 @@ returns g c =
     let clear = ready_clears st c.args.allowance _ c.args.tables c.in_ok-row.row (sym c.in_ok-row.ensures) in
     let ready = ap (carried_from g.K.Kind.equal role g.K.Kind.chars st c.args.allowance tables) (sym c.in_ok-row.ensures) in
     let is =
-    ready ∙ done_at g.K.Kind.equal role s.mode c.args.allowance g.K.Kind.chars names c.in_ok-row.row _ tables c.listing.ensures _ (number_of s.next) c.number_of-number.ensures _ c.in_ok-done.ensures.after done c.in_ok-done.ensures.answer in
-    let entry = c.verdict_entry.ensures ∙ ap (λ k. verdict_entry k done.scanned.verdict) c.number_of-number.ensures in
+    ready ∙ done_at g.K.Kind.equal role s.mode c.args.allowance g.K.Kind.chars names c.in_ok-row.row _ tables c.listing-listing.ensures _ (number_of s.next) c.number-number.ensures _ c.in_ok-done.ensures.after done c.in_ok-done.ensures.answer in
+    let entry = c.verdict_entry.ensures ∙ ap (λ k. verdict_entry k done.scanned.verdict) c.number-number.ensures in
     record {
       answer = ap step_answer (sym is);
       says = step_says g.K.Kind.equal g.met.K.Kind.decides (g.K.Kind.acts s.kind) g.K.Kind.chars st c.args.allowance c.args.tables _ _ (ap step_answer (sym is));
-      leaves = accepted_leaves g.S.Store.held s area _ _ _ _ _ (ap (step_effect st) is) (room_left g.S.Store.held s area clear.room) c.note-self.ensures.count (c.note-self.ensures.area ∙ ap (set area s.recorded) entry) refl;
-      kind = refl;
+      leaves = rw c.note.ensures.session (accepted_leaves g.S.Store.held s area _ _ _ _ _ (ap (step_effect st) is) (room_left g.S.Store.held s area clear.room) refl (c.note.ensures.area ∙ ap (set area s.recorded) entry) refl);
+      kind = rw c.note.ensures.session refl;
     }

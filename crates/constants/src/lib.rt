@@ -31,9 +31,9 @@ fn is_literal(line: &[u8], token: Token) -> bool
 fn write_token<K: Kind>(kind: &K, line: &[u8], token: Token, area: &mut [K::Symbol]) -> usize
     requires inside { Inside line.now token }
     requires small { length line.now < 2 ^ 32 }
-    requires room { length (token_symbols K.Kind.meant K.Kind.wide line.now token) ≤ length area.old }
-    ensures value { result ≡ length (token_symbols K.Kind.meant K.Kind.wide line.now token) }
-    ensures area { area.new ≡ over (token_symbols K.Kind.meant K.Kind.wide line.now token) area.old }
+    requires room { length (token_symbols K.Kind.meant K.Kind.WIDTH line.now token) ≤ length area.old }
+    ensures value { result ≡ length (token_symbols K.Kind.meant K.Kind.WIDTH line.now token) }
+    ensures area { area.new ≡ over (token_symbols K.Kind.meant K.Kind.WIDTH line.now token) area.old }
 {
     if !is_literal(line, token) {
         return 0;
@@ -47,9 +47,9 @@ fn write_token<K: Kind>(kind: &K, line: &[u8], token: Token, area: &mut [K::Symb
 // Writes the symbols of a line's literals to the front of an area; how many they are.
 fn write_line<K: Kind>(kind: &K, line: &[u8], area: &mut [K::Symbol]) -> usize
     requires small { length line.now < 2 ^ 32 }
-    requires room { length (line_symbols K.Kind.meant K.Kind.wide line.now) ≤ length area.old }
-    ensures value { result ≡ length (line_symbols K.Kind.meant K.Kind.wide line.now) }
-    ensures area { area.new ≡ over (line_symbols K.Kind.meant K.Kind.wide line.now) area.old }
+    requires room { length (line_symbols K.Kind.meant K.Kind.WIDTH line.now) ≤ length area.old }
+    ensures value { result ≡ length (line_symbols K.Kind.meant K.Kind.WIDTH line.now) }
+    ensures area { area.new ≡ over (line_symbols K.Kind.meant K.Kind.WIDTH line.now) area.old }
 {
     let mut count = 0;
     let mut at = 0;
@@ -65,9 +65,9 @@ fn write_line<K: Kind>(kind: &K, line: &[u8], area: &mut [K::Symbol]) -> usize
 // Writes the symbols of all literals of a text to the front of an area; how many they are.
 pub fn write_constants<K: Kind>(kind: &K, text: &[u8], area: &mut [K::Symbol]) -> usize
     requires small { length text.now < 2 ^ 31 }
-    requires room { length (sheet_symbols K.Kind.meant K.Kind.wide text.now) ≤ length area.old }
-    ensures value { result ≡ length (sheet_symbols K.Kind.meant K.Kind.wide text.now) }
-    ensures area { area.new ≡ over (sheet_symbols K.Kind.meant K.Kind.wide text.now) area.old }
+    requires room { length (sheet_symbols K.Kind.meant K.Kind.WIDTH text.now) ≤ length area.old }
+    ensures value { result ≡ length (sheet_symbols K.Kind.meant K.Kind.WIDTH text.now) }
+    ensures area { area.new ≡ over (sheet_symbols K.Kind.meant K.Kind.WIDTH text.now) area.old }
 {
     let mut count = 0;
     let mut from = 0;

@@ -5,6 +5,6 @@ use symbols::kind::Kind;
 
 // Runs nothing: its contract is what it is for.
 pub fn loaded_fits<K: Kind>(_kind: &K)
-    ensures fits { Loaded-fits K.Kind.meant K.Kind.wide }
-    ensures admitted { Loaded-admitted K.Kind.meant K.Kind.wide }
+    ensures fits { Loaded-fits K.Kind.meant K.Kind.WIDTH }
+    ensures admitted { Loaded-admitted K.Kind.meant K.Kind.WIDTH }
 {}

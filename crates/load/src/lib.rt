@@ -39,9 +39,9 @@ pub fn load<K: Kind>(
     rows: &mut [Row],
     constants: &mut [K::Symbol],
 ) -> Result<Sheet, Refusal>
-    ensures answer { result ≡ answered (load_refusal K.Kind.meant K.Kind.wide (length rows.old) (length constants.old) text.now) (sheet_of K.Kind.meant K.Kind.wide text.now) }
-    ensures rows { rows.new ≡ unless (load_refusal K.Kind.meant K.Kind.wide (length rows.old) (length constants.old) text.now) rows.old (over (sheet_rows K.Kind.meant K.Kind.wide text.now) rows.old) }
-    ensures constants { constants.new ≡ unless (load_refusal K.Kind.meant K.Kind.wide (length rows.old) (length constants.old) text.now) constants.old (over (sheet_symbols K.Kind.meant K.Kind.wide text.now) constants.old) }
+    ensures answer { result ≡ answered (load_refusal K.Kind.meant K.Kind.WIDTH (length rows.old) (length constants.old) text.now) (sheet_of K.Kind.meant K.Kind.WIDTH text.now) }
+    ensures rows { rows.new ≡ unless (load_refusal K.Kind.meant K.Kind.WIDTH (length rows.old) (length constants.old) text.now) rows.old (over (sheet_rows K.Kind.meant K.Kind.WIDTH text.now) rows.old) }
+    ensures constants { constants.new ≡ unless (load_refusal K.Kind.meant K.Kind.WIDTH (length rows.old) (length constants.old) text.now) constants.old (over (sheet_symbols K.Kind.meant K.Kind.WIDTH text.now) constants.old) }
 {
     if rows.len() < 128 || constants.len() < 4096 {
         return Err(nowhere(Cause::ShortArea));

@@ -18,7 +18,7 @@ use tables::row::{Operand, Row};
 fn symbols_of<K: Kind>(kind: &K, line: &[u8], token: Token) -> usize
     requires inside { Inside line.now token }
     requires small { length line.now < 2 ^ 32 }
-    ensures value { result ≡ length (token_symbols K.Kind.meant K.Kind.wide line.now token) }
+    ensures value { result ≡ length (token_symbols K.Kind.meant K.Kind.WIDTH line.now token) }
     ensures few { result ≤ token.size }
 {
     match literal(kind, line, token) {
@@ -47,8 +47,8 @@ pub fn read_row<K: Kind>(
     requires names { length names.now < 2 ^ 32 }
     requires labels { length labels.now < 2 ^ 32 }
     requires symbols { symbols < 2 ^ 32 }
-    ensures row { result.row ≡ line_row K.Kind.meant K.Kind.wide (map (part_of text.now) names.now) (map (part_of text.now) labels.now) symbols line.now }
-    ensures symbols { result.symbols ≡ symbols + length (line_symbols K.Kind.meant K.Kind.wide line.now) }
+    ensures row { result.row ≡ line_row K.Kind.meant K.Kind.WIDTH (map (part_of text.now) names.now) (map (part_of text.now) labels.now) symbols line.now }
+    ensures symbols { result.symbols ≡ symbols + length (line_symbols K.Kind.meant K.Kind.WIDTH line.now) }
     ensures few { result.symbols ≤ symbols + length line.now }
 {
     let mut draft = no_draft();

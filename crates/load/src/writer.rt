@@ -44,9 +44,9 @@ pub fn write_rows<K: Kind>(
     requires small { length text.now < 2 ^ 31 }
     requires names { length names.now < 2 ^ 32 }
     requires labels { length labels.now < 2 ^ 32 }
-    requires room { length (rows_from K.Kind.meant K.Kind.wide (map (part_of text.now) names.now) (map (part_of text.now) labels.now) 0 (lines_of text.now)) ≤ length rows.old }
-    ensures value { result ≡ length (rows_from K.Kind.meant K.Kind.wide (map (part_of text.now) names.now) (map (part_of text.now) labels.now) 0 (lines_of text.now)) }
-    ensures rows { rows.new ≡ over (rows_from K.Kind.meant K.Kind.wide (map (part_of text.now) names.now) (map (part_of text.now) labels.now) 0 (lines_of text.now)) rows.old }
+    requires room { length (rows_from K.Kind.meant K.Kind.WIDTH (map (part_of text.now) names.now) (map (part_of text.now) labels.now) 0 (lines_of text.now)) ≤ length rows.old }
+    ensures value { result ≡ length (rows_from K.Kind.meant K.Kind.WIDTH (map (part_of text.now) names.now) (map (part_of text.now) labels.now) 0 (lines_of text.now)) }
+    ensures rows { rows.new ≡ over (rows_from K.Kind.meant K.Kind.WIDTH (map (part_of text.now) names.now) (map (part_of text.now) labels.now) 0 (lines_of text.now)) rows.old }
 {
     let mut from = 0;
     let mut stored = 0;

@@ -1,3 +1,4 @@
+pub mod Modes
 pub mod Pattern
 pub mod Order
 pub mod Placing

@@ -1,7 +1,7 @@
 -- What a pattern is made of, and when a part of the subject suits an element. Assumes nothing.
 use Rattle.std.specs.Prelude.{◌≡◌, ℕ, suc, ◌+◌, ◌<◌, ◌≤◌, List, [], ◌∷◌, length, take, slice_index, slice_range}
+pub use Rattle.symbols.specs.Roles.{opens, closes}
 use Rattle.symbols.specs.declared.role.Role.{Role}
-use Rattle.symbols.specs.declared.role.Role.TheVariants.{Opening, Closing, Plain}
 
 -- an element: a constant, an arbitrary, balanced or fixed-length variable, or a back reference to element i, counted from 0
 pub data Element (A : Type 0) : Type 0 where
@@ -14,18 +14,6 @@ pub data Element (A : Type 0) : Type 0 where
 -- the part of s from place a to place b
 abbrev pub part : {A : Type 0} → List A → ℕ → ℕ → List A
 part s a b = slice_range s a b
-
--- how many a symbol of a role opens: one or none
-abbrev pub opens : Role → ℕ
-opens Opening = 1
-opens Closing = 0
-opens Plain = 0
-
--- how many it closes: one or none
-abbrev pub closes : Role → ℕ
-closes Opening = 0
-closes Closing = 1
-closes Plain = 0
 
 -- how many opening symbols there are
 abbrev pub openings : {A : Type 0} → (A → Role) → List A → ℕ

@@ -234,7 +234,7 @@ pub(crate) fn check_line<K: Kind>(
     requires names { 64 < length names.old }
     requires labels { 128 < length labels.old }
     requires limited { Limited before }
-    ensures { Checked (first (line_faults (counts K.Kind.meant K.Kind.wide) (carried text.now names.old labels.old before) line.now)) (with_line (counts K.Kind.meant K.Kind.wide) (carried text.now names.old labels.old before) line.now) text.now names.new labels.new result }
+    ensures { Checked (first (line_faults (counts K.Kind.meant K.Kind.WIDTH) (carried text.now names.old labels.old before) line.now)) (with_line (counts K.Kind.meant K.Kind.WIDTH) (carried text.now names.old labels.old before) line.now) text.now names.new labels.new result }
 {
     let own = own_fault(text, labels, line, before);
     if is_passed(line, before.ended) {

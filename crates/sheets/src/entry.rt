@@ -257,7 +257,7 @@ fn blank_row() -> Row
 fn symbols_of<K: Kind>(kind: &K, line: &[u8], token: Token) -> usize
     requires inside { Inside line.now token }
     requires small { length line.now < 2 ^ 32 }
-    ensures value { result ≡ symbols_added (literal (counts K.Kind.meant K.Kind.wide) line.now token) }
+    ensures value { result ≡ symbols_added (literal (counts K.Kind.meant K.Kind.WIDTH) line.now token) }
     ensures few { result ≤ token.size }
 {
     match literal(kind, line, token) {
@@ -288,8 +288,8 @@ pub(crate) fn read_row<K: Kind>(
     requires names { length names.now < 2 ^ 32 }
     requires labels { length labels.now < 2 ^ 32 }
     requires symbols { symbols < 2 ^ 32 }
-    ensures row { result.row ≡ row_of (counts K.Kind.meant K.Kind.wide) (map (part_of text.now) names.now) (map (part_of text.now) labels.now) from line.now symbols }
-    ensures symbols { result.symbols ≡ symbols_from (counts K.Kind.meant K.Kind.wide) (map (part_of text.now) names.now) (map (part_of text.now) labels.now) from line.now symbols (tokens line.now) }
+    ensures row { result.row ≡ row_of (counts K.Kind.meant K.Kind.WIDTH) (map (part_of text.now) names.now) (map (part_of text.now) labels.now) from line.now symbols }
+    ensures symbols { result.symbols ≡ symbols_from (counts K.Kind.meant K.Kind.WIDTH) (map (part_of text.now) names.now) (map (part_of text.now) labels.now) from line.now symbols (tokens line.now) }
     ensures few { result.symbols ≤ symbols + length line.now }
 {
     let mut row = blank_row();

@@ -30,7 +30,7 @@ pub fn nowhere(cause: Cause) -> Refusal
 
 // Checks the text of a sheet, its literals as symbols of the kind.
 pub fn survey<K: Kind>(kind: &K, text: &[u8]) -> Result<Outline, Refusal>
-    ensures { Surveyed (text_refusal (counts K.Kind.meant K.Kind.wide) text.now) (brought (counts K.Kind.meant K.Kind.wide) text.now) text.now result }
+    ensures { Surveyed (text_refusal (counts K.Kind.meant K.Kind.WIDTH) text.now) (brought (counts K.Kind.meant K.Kind.WIDTH) text.now) text.now result }
 {
     if text.len() > 16384 {
         return Err(nowhere(Cause::TextLong));

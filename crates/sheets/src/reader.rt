@@ -28,7 +28,7 @@ fn check_numbered<K: Kind>(
     requires names { 64 < length names.old }
     requires labels { 128 < length labels.old }
     requires limited { Limited before }
-    ensures { Numbered (first (line_faults (counts K.Kind.meant K.Kind.wide) (carried text.now names.old labels.old before) line.now)) number (with_line (counts K.Kind.meant K.Kind.wide) (carried text.now names.old labels.old before) line.now) text.now names.new labels.new result }
+    ensures { Numbered (first (line_faults (counts K.Kind.meant K.Kind.WIDTH) (carried text.now names.old labels.old before) line.now)) number (with_line (counts K.Kind.meant K.Kind.WIDTH) (carried text.now names.old labels.old before) line.now) text.now names.new labels.new result }
 {
     match check_line(kind, text, from, line, names, labels, before) {
         Ok(carried) => Ok(carried),
@@ -49,7 +49,7 @@ pub(crate) fn check_lines<K: Kind>(
     requires small { length text.now < 2 ^ 31 }
     requires names { 64 < length names.old }
     requires labels { 128 < length labels.old }
-    ensures { Read (lines_refusal (counts K.Kind.meant K.Kind.wide) 1 nothing (lines_of text.now)) (brought_by (counts K.Kind.meant K.Kind.wide) nothing (lines_of text.now)) text.now names.new labels.new result }
+    ensures { Read (lines_refusal (counts K.Kind.meant K.Kind.WIDTH) 1 nothing (lines_of text.now)) (brought_by (counts K.Kind.meant K.Kind.WIDTH) nothing (lines_of text.now)) text.now names.new labels.new result }
 {
     let mut carried = Carried {
         statements: 0,

@@ -14,8 +14,8 @@ use symbols::kind::Kind;
 
 // Writes the rows of a sheet to the front of an area of 128 or more; a refused sheet leaves the area as it was.
 pub fn tabulate<K: Kind>(kind: &K, text: &[u8], rows: &mut [Row]) -> Result<Outline, Refusal>
-    ensures answer { Surveyed (table_refusal (counts K.Kind.meant K.Kind.wide) (length rows.old) text.now) (brought (counts K.Kind.meant K.Kind.wide) text.now) text.now result }
-    ensures rows { rows.new ≡ unless (table_refusal (counts K.Kind.meant K.Kind.wide) (length rows.old) text.now) rows.old (put 0 (table_rows (counts K.Kind.meant K.Kind.wide) text.now) rows.old) }
+    ensures answer { Surveyed (table_refusal (counts K.Kind.meant K.Kind.WIDTH) (length rows.old) text.now) (brought (counts K.Kind.meant K.Kind.WIDTH) text.now) text.now result }
+    ensures rows { rows.new ≡ unless (table_refusal (counts K.Kind.meant K.Kind.WIDTH) (length rows.old) text.now) rows.old (put 0 (table_rows (counts K.Kind.meant K.Kind.WIDTH) text.now) rows.old) }
 {
     if rows.len() < 128 {
         return Err(nowhere(Cause::ShortArea));

@@ -69,7 +69,7 @@ fn ninth(tally: Tally, token: Token) -> Option<Fault>
 pub fn literal<K: Kind>(kind: &K, line: &[u8], token: Token) -> Result<usize, SymbolAt>
     requires inside { Inside line.now token }
     requires small { length line.now < 2 ^ 32 }
-    ensures { result ≡ placed token (literal (counts K.Kind.meant K.Kind.wide) line.now token) }
+    ensures { result ≡ placed token (literal (counts K.Kind.meant K.Kind.WIDTH) line.now token) }
 {
     let Sort::Literal = sort_of(token.role) else {
         return Ok(0);
@@ -96,7 +96,7 @@ fn literal_symbols<K: Kind>(
     requires inside { Inside line.now token }
     requires small { length line.now < 2 ^ 32 }
     requires room { before ≤ 4096 }
-    ensures { result ≡ literal_answer (literal (counts K.Kind.meant K.Kind.wide) line.now token) before token }
+    ensures { result ≡ literal_answer (literal (counts K.Kind.meant K.Kind.WIDTH) line.now token) before token }
 {
     let count = literal(kind, line, token)?;
     if count > 4096 - before {
@@ -155,7 +155,7 @@ fn token_symbols<K: Kind>(
     requires small { length line.now < 2 ^ 32 }
     requires room { tally.names ≤ length names.now }
     requires within { Within tally }
-    ensures { result ≡ answered (first (token_faults (counts K.Kind.meant K.Kind.wide) line.now (told text.now names.now tally) token)) (symbols_added (literal (counts K.Kind.meant K.Kind.wide) line.now token)) }
+    ensures { result ≡ answered (first (token_faults (counts K.Kind.meant K.Kind.WIDTH) line.now (told text.now names.now tally) token)) (symbols_added (literal (counts K.Kind.meant K.Kind.WIDTH) line.now token)) }
 {
     let fault = least(
         least(long_name(line, token), ninth(tally, token)),
@@ -230,7 +230,7 @@ fn take_token<K: Kind>(
     requires lies { Lies text.now from line.now }
     requires room { 64 < length names.old }
     requires within { Within tally }
-    ensures { Took (first (token_faults (counts K.Kind.meant K.Kind.wide) line.now (told text.now names.old tally) token)) (with_token (counts K.Kind.meant K.Kind.wide) line.now (told text.now names.old tally) token) text.now names.new result }
+    ensures { Took (first (token_faults (counts K.Kind.meant K.Kind.WIDTH) line.now (told text.now names.old tally) token)) (with_token (counts K.Kind.meant K.Kind.WIDTH) line.now (told text.now names.old tally) token) text.now names.new result }
 {
     let symbols = token_symbols(kind, text, names, line, tally, token)?;
     let opened = opened_by(token.role);
@@ -257,7 +257,7 @@ pub(crate) fn check_tokens<K: Kind>(
     requires lies { Lies text.now from line.now }
     requires room { 64 < length names.old }
     requires within { Within before }
-    ensures { Took (first (faults_from (counts K.Kind.meant K.Kind.wide) line.now (told text.now names.old before) (tokens line.now))) (count_from (counts K.Kind.meant K.Kind.wide) line.now (told text.now names.old before) (tokens line.now)) text.now names.new result }
+    ensures { Took (first (faults_from (counts K.Kind.meant K.Kind.WIDTH) line.now (told text.now names.old before) (tokens line.now))) (count_from (counts K.Kind.meant K.Kind.WIDTH) line.now (told text.now names.old before) (tokens line.now)) text.now names.new result }
 {
     let mut tally = before;
     let mut at = 0;

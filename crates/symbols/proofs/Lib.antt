@@ -1,3 +1,4 @@
+pub mod EventText
 pub mod ReadLaws
 pub mod TextLaws
 pub mod WriteLaws

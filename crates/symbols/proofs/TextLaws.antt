@@ -1,6 +1,7 @@
 -- Reading and writing whole texts: one symbol more, and what comes of all of them.
-use Rattle.std.proofs.Common.{◌≡◌, ℕ, zero, suc, ◌+◌, ◌-◌, ◌*◌, ◌/◌, ◌%◌, ◌<◌, ◌≤◌, Bool, true, false, cond, eqb, ltb, List, [], ◌∷◌, ◌++◌, length, get_or, take, drop, set, Some, None, Ok, Err, Option, Result, sym, refl, ap, ◌∙◌, append_assoc, mul-le-mul_right, suc-mul, div-add-mod', arith, drop-drop, take-add}
-use Rattle.std.proofs.lemmas.List.{length-drop, length-take-le, take_all, drop_more, set_at}
+use Rattle.std.proofs.Common.{◌≡◌, ℕ, zero, suc, ◌+◌, ◌*◌, ◌/◌, ◌%◌, ◌<◌, ◌≤◌, Bool, true, false, cond, eqb, ltb, List, [], ◌∷◌, ◌++◌, length, get_or, take, drop, set, Some, None, Ok, Err, Option, Result, sym, refl, ap, ◌∙◌, append_assoc, suc-mul, le-div_iff_mul-le, IsOk, is_ok, div-add-mod', arith, drop-drop, take-add}
+use Rattle.std.proofs.lemmas.List.{length-append, length-drop, length-take-le, take_all, take_at, drop_at, drop_more, set_at}
+use Rattle.std.proofs.lemmas.Nat.{div-mul-add}
 use Rattle.std.proofs.lemmas.Bool.{cond-true, cond-false, eq-eqb, ne_eqb, eqb-true, lt-ltb, le-ltb}
 use Rattle.std.specs.Option.{option_map}
 use Rattle.symbols.specs.Answers.{over}
@@ -34,13 +35,6 @@ counted_more : {X : Type 0} (i at : ℕ) (x : X) (r : Result (List X) TextFault)
 counted_more i at x (Ok xs) = let z : i + suc (length xs) ≡ i + 1 + length xs = omega arith in ap Ok z
 counted_more i at x (Err f) = refl
 
--- the characters of symbol i, of n / w, end inside the text
-pub inside : (at i n w : ℕ) → at ≡ i * w → i < n / w → at + w ≤ n
-inside at i n w e h = omega (arith, div-add-mod' n w, suc-mul i w, mul-le-mul_right w h)
-
-pub next_place : (at i w : ℕ) → at ≡ i * w → at + w ≡ (i + 1) * w
-next_place at i w e = omega (arith, suc-mul i w)
-
 module _ {X : Type 0} (meant : List ℕ → Option X) (w : ℕ) (s : List ℕ) where
   pub read_whole : length s % w ≡ 0 → text_read meant w s ≡ symbols_from meant w (length s / w) 0 s
   unfolding text_read
@@ -50,35 +44,40 @@ module _ {X : Type 0} (meant : List ℕ → Option X) (w : ℕ) (s : List ℕ) w
   unfolding text_read
   read_not_whole h = cond-false (eqb (length s % w) 0) (symbols_from meant w (length s / w) 0 s) _ (ne_eqb _ _ h)
 
-  one_more : (k i at : ℕ) → i < k → symbols_from meant w (k - i) at (drop at s) ≡ before at (meant (take w (drop at s))) (symbols_from meant w (k - (i + 1)) (at + w) (drop (at + w) s))
+  pub count_starts : length s % w ≡ 0 → counted (text_read meant w s) ≡ ahead 0 (counted (symbols_from meant w (length s / w) (0 * w) s))
+  count_starts h = let z : 0 * w ≡ 0 = omega arith in rw z (ap counted (read_whole h) ∙ sym (ahead_none _))
+
+-- a part of w characters in front of others
+module _ {X : Type 0} (meant : List ℕ → Option X) (w : ℕ) (some : 1 ≤ w) where
+  pub one_part : (r : ℕ) → (w + r) / w ≡ suc (r / w)
+  one_part r =
+      let e : w + r ≡ suc (r / w) * w + r % w = omega (arith, div-add-mod' r w, suc-mul (r / w) w) in
+      rw e (div-mul-add (suc (r / w)) w (r % w) (omega arith))
+
+  pub one_more : (at : ℕ) (s x t : List ℕ) → s ≡ x ++ t → length x ≡ w → symbols_from meant w (length s / w) at s ≡ before at (meant x) (symbols_from meant w (length t / w) (at + w) t)
   unfolding symbols_from
-  one_more k i at l =
-      let z : k - i ≡ suc (k - (i + 1)) = omega arith in
-      ap (λ n. symbols_from meant w n at (drop at s)) z ∙ ap (λ t. before at (meant (take w (drop at s))) (symbols_from meant w (k - (i + 1)) (at + w) t)) (drop-drop w at s)
+  one_more at s x t e l =
+      let k : length s / w ≡ suc (length t / w) = ap (λ n. n / w) (ap length e ∙ length-append x t ∙ ap (λ n. n + length t) l) ∙ one_part (length t) in
+      ap (λ n. symbols_from meant w n at s) k ∙ ap (symbols_from meant w (suc (length t / w)) at) e ∙ rw (take_at x t w l, drop_at x t w l)
 
-  pub count_starts : length s % w ≡ 0 → counted (text_read meant w s) ≡ ahead 0 (counted (symbols_from meant w (length s / w - 0) 0 (drop 0 s)))
-  count_starts h = let z : length s / w - 0 ≡ length s / w = omega arith in rw z (ap counted (read_whole h) ∙ sym (ahead_none _))
+  -- i symbols before the part at i
+  module _ (i : ℕ) (s x t : List ℕ) (e : s ≡ x ++ t) (l : length x ≡ w) where
+    pub count_stops : (f : SymbolFault) → Err f ≡ read_as (meant x) → ahead i (counted (symbols_from meant w (length s / w) (i * w) s)) ≡ Err (record { fault = f; at = i * w })
+    count_stops f h =
+        let r = read_none _ f h in
+        rw (one_more (i * w) s x t e l, r.0, r.1)
 
-  -- the code's own form of a part of w characters
-  pub part_at : (at : ℕ) → take (at + w - at) (drop at s) ≡ take w (drop at s)
-  part_at at = let z : at + w - at ≡ w = omega arith in ap (λ n. take n (drop at s)) z
+    pub count_goes : (y : X) → Ok y ≡ read_as (meant x) → ahead i (counted (symbols_from meant w (length s / w) (i * w) s)) ≡ ahead (i + 1) (counted (symbols_from meant w (length t / w) ((i + 1) * w) t))
+    count_goes y h =
+        let n : (i + 1) * w ≡ i * w + w = omega (arith, suc-mul i w) in
+        rw (one_more (i * w) s x t e l, read_some _ y h, n) (counted_more i (i * w) y _)
 
-  pub count_stops : (k i at : ℕ) (f : SymbolFault) → i < k → Err f ≡ read_as (meant (take (at + w - at) (drop at s))) → ahead i (counted (symbols_from meant w (k - i) at (drop at s))) ≡ Err (record { fault = f; at = at })
-  count_stops k i at f l h =
-      let r = read_none _ f h in
-      let n = ap meant (sym (part_at at)) ∙ r.0 in
-      rw (one_more k i at l, n, r.1)
-
-  pub count_goes : (k i at : ℕ) (x : X) → i < k → Ok x ≡ read_as (meant (take (at + w - at) (drop at s))) → ahead i (counted (symbols_from meant w (k - i) at (drop at s))) ≡ ahead (i + 1) (counted (symbols_from meant w (k - (i + 1)) (at + w) (drop (at + w) s)))
-  count_goes k i at x l h =
-      let n = ap meant (sym (part_at at)) ∙ read_some _ x h in
-      rw (one_more k i at l, n) (counted_more i at x _)
-
-  pub count_ends : (k i at : ℕ) → i ≡ k → ahead i (counted (symbols_from meant w (k - i) at (drop at s))) ≡ Ok k
+  pub count_ends : (i at : ℕ) (s : List ℕ) → length s < w → ahead i (counted (symbols_from meant w (length s / w) at s)) ≡ Ok i
   unfolding symbols_from
-  count_ends k i at e =
-      let z : k - i ≡ 0 = omega arith in
-      let y : i + 0 ≡ k = omega arith in
+  count_ends i at s h =
+      let n : 0 * w + length s ≡ length s = omega arith in
+      let z : length s / w ≡ 0 = ap (λ k. k / w) (sym n) ∙ div-mul-add 0 w (length s) h in
+      let y : i + 0 ≡ i = omega arith in
       rw z (ap Ok y)
 
 -- a first symbol and the others, where all are read
@@ -108,24 +107,44 @@ module _ {X : Type 0} (meant : List ℕ → Option X) (w : ℕ) where
   unfolding text_read
   whole_read s xs h = let c = cut_ok (eqb (length s % w) 0) (symbols_from meant w (length s / w) 0 s) _ xs h in (eqb-true _ _ c.0, c.1)
 
--- filling an area with the symbols xs of a text, i of them written
-module _ {X : Type 0} (meant : List ℕ → Option X) (w : ℕ) (s : List ℕ) where
-  pub fill_count : (k : ℕ) → counted (text_read meant w s) ≡ Ok k → length s / w ≡ k
-  fill_count k h =
-      let c = counted_ok (text_read meant w s) k h in
-      sym (many_read meant w (length s / w) 0 s _ (whole_read meant w s _ c.0).1) ∙ c.1
+-- a text that is read has its symbols
+pub read_ok : {X : Type 0} (r : Result (List X) TextFault) → IsOk r → r ≡ Ok (symbols_in r)
+read_ok (Ok xs) h = refl
+read_ok (Err f) h = let z : ◌≡◌ {A = ℕ} 0 1 = cc in absurd (omega arith)
 
-  pub fill_starts : (k : ℕ) → counted (text_read meant w s) ≡ Ok k → symbols_from meant w (k - 0) 0 s ≡ Ok (symbols_in (text_read meant w s))
-  fill_starts k h =
-      let z : k - 0 ≡ length s / w = omega (arith, fill_count k h) in
-      rw z (whole_read meant w s _ (counted_ok (text_read meant w s) k h).0).1
+-- a text of n characters has a part at i
+pub one_inside : (i n w : ℕ) (s x t : List ℕ) → 1 ≤ w → i * w + length s ≡ n → s ≡ x ++ t → length x ≡ w → i < n / w
+one_inside i n w s x t some place e l =
+    let q : (i + 1) * w ≤ n = omega (arith, suc-mul i w, ap length e, length-append x t) in
+    let m : i + 1 ≤ n / w = (le-div_iff_mul-le some).1 q in
+    omega arith
 
-module _ {X : Type 0} (meant : List ℕ → Option X) (w : ℕ) (s : List ℕ) (xs : List X) where
-  pub fill_goes : (k i at : ℕ) → i < k → symbols_from meant w (k - i) at (drop at s) ≡ Ok (drop i xs) → (x : X) × (meant (take (at + w - at) (drop at s)) ≡ Some x) × (symbols_from meant w (k - (i + 1)) (at + w) (drop (at + w) s) ≡ Ok (drop (i + 1) xs)) × (drop i xs ≡ x ∷ drop (i + 1) xs)
-  fill_goes k i at l h =
-      let b = before_ok at (meant (take w (drop at s))) (symbols_from meant w (k - (i + 1)) (at + w) (drop (at + w) s)) (drop i xs) (sym (one_more meant w s k i at l) ∙ h) in
-      let d : b.1 ≡ drop (i + 1) xs = ap (drop 1) (sym b.4) ∙ drop-drop 1 i xs in
-      (b.0, ap meant (part_at meant w s at) ∙ b.2, b.3 ∙ ap Ok d, b.4 ∙ ap (λ t. b.0 ∷ t) d)
+-- filling an area with the symbols of a text
+module _ {X : Type 0} (meant : List ℕ → Option X) (w : ℕ) (s : List ℕ) (read : IsOk (text_read meant w s)) where
+  all_read : symbols_from meant w (length s / w) 0 s ≡ Ok (symbols_in (text_read meant w s))
+  all_read = (whole_read meant w s _ (read_ok _ read)).1
+
+  pub fill_starts : symbols_from meant w (length s / w) (0 * w) s ≡ Ok (symbols_in (text_read meant w s))
+  fill_starts = let z : 0 * w ≡ 0 = omega arith in rw z all_read
+
+  pub fill_count : length (symbols_in (text_read meant w s)) ≡ length s / w
+  fill_count = many_read meant w (length s / w) 0 s _ all_read
+
+-- i of the symbols xs are written, and the part at i is x
+module _ {X : Type 0} (meant : List ℕ → Option X) (w : ℕ) (some : 1 ≤ w) (i : ℕ) (s x t : List ℕ) (xs : List X) (e : s ≡ x ++ t) (l : length x ≡ w) (h : symbols_from meant w (length s / w) (i * w) s ≡ Ok (drop i xs)) where
+  next_one : (y : X) × (ys : List X) × (meant x ≡ Some y) × (symbols_from meant w (length t / w) (i * w + w) t ≡ Ok ys) × (drop i xs ≡ y ∷ ys)
+  next_one = before_ok (i * w) (meant x) (symbols_from meant w (length t / w) (i * w + w) t) (drop i xs) (sym (one_more meant w some (i * w) s x t e l) ∙ h)
+
+  pub fill_reads : IsOk (read_as (meant x))
+  fill_reads = ap (λ o. is_ok (read_as o)) next_one.2
+
+  pub fill_goes : (y : X) → Ok y ≡ read_as (meant x) → (symbols_from meant w (length t / w) ((i + 1) * w) t ≡ Ok (drop (i + 1) xs)) × (drop i xs ≡ y ∷ drop (i + 1) xs)
+  fill_goes y r =
+      let o = read_some _ y r in
+      let same : next_one.0 ≡ y = let m = next_one.2 in cc in
+      let d : next_one.1 ≡ drop (i + 1) xs = ap (drop 1) (sym next_one.4) ∙ drop-drop 1 i xs in
+      let n : (i + 1) * w ≡ i * w + w = omega (arith, suc-mul i w) in
+      (rw n (next_one.3 ∙ ap Ok d), next_one.4 ∙ rw (same, d))
 
 -- one symbol more over the front of an area
 pub put_next : {X : Type 0} (xs area : List X) (i : ℕ) (x : X) → drop i xs ≡ x ∷ drop (i + 1) xs → i < length area → set (take i xs ++ drop i area) i x ≡ take (i + 1) xs ++ drop (i + 1) area

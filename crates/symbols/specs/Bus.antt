@@ -1,7 +1,8 @@
 -- What bus events mean: three digits of an identifier, a phase, four digits of a value. Assumes nothing.
 use Rattle.std.specs.Prelude.{◌≡◌, ℕ, Bool, true, false, cond, ◌&&◌, List, ◌∷◌, ◌++◌, length, take, drop, Some, None, Option, ◌==◌, slice_index, refl}
 use Rattle.symbols.specs.EventRange.{in_range}
-use Rattle.symbols.specs.Hex.{given, hex_number, hex_digits}
+use Rattle.std.specs.Option.{option_and_then}
+use Rattle.symbols.specs.Hex.{hex_number, hex_digits}
 use Rattle.symbols.specs.declared.bus_event.BusEvent.{BusEvent}
 use Rattle.symbols.specs.declared.bus_event.Phase.{Phase}
 use Rattle.symbols.specs.declared.bus_event.Phase.TheVariants.{Begin, End, Point}
@@ -25,7 +26,7 @@ event i p v false e = None
 
 -- the event of parts that may be absent
 abbrev pub event_of : Option ℕ → Option Phase → Option ℕ → Option BusEvent
-event_of identifier phase value = given identifier (λ i. given phase (λ p. given value (λ v. event i p v (in_range i v) refl)))
+event_of identifier phase value = option_and_then (λ i. option_and_then (λ p. option_and_then (λ v. event i p v (in_range i v) refl) value) phase) identifier
 
 -- what characters mean: eight of them the event whose parts they write
 abbrev pub bus_meant : List ℕ → Option BusEvent

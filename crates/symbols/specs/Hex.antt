@@ -1,10 +1,6 @@
 -- Hexadecimal digits with capital letters, and the numbers that they write. Assumes nothing.
 use Rattle.std.specs.Prelude.{ℕ, zero, suc, ◌+◌, ◌-◌, ◌*◌, ◌/◌, ◌%◌, cond, ◌&&◌, List, [], ◌∷◌, ◌++◌, Some, None, Option, nat_le, nat_lt}
-
--- what comes of a value that may be absent
-abbrev pub given : {A B : Type 0} → Option A → (A → Option B) → Option B
-given None f = None
-given (Some a) f = f a
+use Rattle.std.specs.Option.{option_and_then}
 
 -- the value of a digit: 0 to 9, A to F
 abbrev pub hex_value : ℕ → Option ℕ
@@ -17,7 +13,7 @@ hex_digit v = cond (nat_lt v 10) (v + 48) (v + 55)
 -- the number that digits write behind those that wrote n
 unfoldable pub hex_more : ℕ → List ℕ → Option ℕ
 hex_more n [] = Some n
-hex_more n (c ∷ cs) = given (hex_value c) (λ v. hex_more (n * 16 + v) cs)
+hex_more n (c ∷ cs) = option_and_then (λ v. hex_more (n * 16 + v) cs) (hex_value c)
 
 -- the number that digits write
 abbrev pub hex_number : List ℕ → Option ℕ

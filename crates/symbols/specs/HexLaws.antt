@@ -3,9 +3,10 @@ use Rattle.std.specs.Prelude.{◌≡◌, ℕ, zero, suc, ◌+◌, ◌*◌, ◌/�
 use Rattle.std.proofs.Common.{append_assoc, append-nil, sym, ap, ◌∙◌, pow-suc, mul_assoc, add-one, arith, drop-cons}
 use Rattle.std.proofs.lemmas.List.{length_push, drop_all}
 use Rattle.std.proofs.lemmas.Bool.Decides.{nat_tests}
-use Rattle.symbols.specs.Hex.{given, hex_value, hex_digit, hex_more, hex_number, hex_digits}
+use Rattle.std.specs.Option.{option_and_then}
+use Rattle.symbols.specs.Hex.{hex_value, hex_digit, hex_more, hex_number, hex_digits}
 
-pub given_some : {A B : Type 0} (o : Option A) (f : A → Option B) (b : B) → given o f ≡ Some b → (a : A) × (o ≡ Some a) × (f a ≡ Some b)
+pub given_some : {A B : Type 0} (o : Option A) (f : A → Option B) (b : B) → option_and_then f o ≡ Some b → (a : A) × (o ≡ Some a) × (f a ≡ Some b)
 given_some None f b h = let z : ◌≡◌ {A = ℕ} 0 1 = cc in absurd (omega arith)
 given_some (Some a) f b h = (a, refl, h)
 
@@ -35,7 +36,7 @@ digits_write (suc k) a n cs h =
     let whole : (a * 16 ^ k + n / 16) * 16 + n % 16 ≡ a * 16 ^ suc k + n = rw p (omega arith) in
     ap (hex_more a) (append_assoc (hex_digits k (n / 16)) (hex_digit (n % 16) ∷ []) cs)
     ∙ digits_write k a (n / 16) (hex_digit (n % 16) ∷ cs) small
-    ∙ ap (λ o. given o (λ v. hex_more ((a * 16 ^ k + n / 16) * 16 + v) cs)) (value_of_digit (n % 16) digit)
+    ∙ ap (option_and_then (λ v. hex_more ((a * 16 ^ k + n / 16) * 16 + v) cs)) (value_of_digit (n % 16) digit)
     ∙ ap (λ m. hex_more m cs) whole
 
 pub number_of_digits : (k n : ℕ) → n < 16 ^ k → hex_number (hex_digits k n) ≡ Some n

@@ -4,6 +4,7 @@ pub mod EventRange
 pub mod Hex
 pub mod Kinds
 pub mod Log
+pub mod Roles
 pub mod LogCodes
 pub mod Texts
 pub mod BusLaws

@@ -19,11 +19,8 @@ pub(crate) fn hex_number(digits: &[u8]) -> Option<u16>
     ensures { result ≡ hex_number digits.now }
 {
     let mut n: u16 = 0;
-    for i in 0..digits.len() {
-        let Some(v) = hex_value(digits[i]) else {
-            return None;
-        };
-        n = n * 16 + v;
+    for digit in digits {
+        n = n * 16 + hex_value(*digit)?;
     }
     Some(n)
 }

@@ -11,10 +11,10 @@ use crate::role::Role;
 pub trait Kind {
     type Symbol: Copy;
 
+    // How many characters write one symbol.
     const WIDTH: usize;
 
-    // How many characters write one symbol.
-    ghost wide: { ℕ };
+    ghost WIDTH: { ℕ };
 
     // The characters that a symbol means.
     ghost chars: { Self.Symbol → List ℕ };
@@ -27,10 +27,6 @@ pub trait Kind {
 
     // The role that the kind gives a symbol.
     ghost acts: { Self → Self.Symbol → Role };
-
-    // WIDTH, for clauses, which cannot speak of a constant.
-    fn symbol_width(&self) -> usize
-        ensures { result ≡ wide };
 
     // The symbol that the characters mean.
     fn read(&self, text: &[u8]) -> Result<Self::Symbol, SymbolFault>
@@ -49,9 +45,9 @@ pub trait Kind {
     fn role(&self, symbol: Self::Symbol) -> Role
         ensures { result ≡ acts self.now symbol };
 
-    ghost wide_some: { 1 ≤ wide };
+    ghost wide_some: { 1 ≤ WIDTH };
 
-    ghost all_wide: { (x : Self.Symbol) → length (chars x) ≡ wide };
+    ghost all_wide: { (x : Self.Symbol) → length (chars x) ≡ WIDTH };
 
     ghost read_back: { (x : Self.Symbol) → meant (chars x) ≡ Some x };
 

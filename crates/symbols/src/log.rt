@@ -17,7 +17,7 @@ impl Kind for LogChars {
 
     const WIDTH: usize = 1;
 
-    ghost wide = { 1 };
+    ghost WIDTH = { 1 };
 
     ghost chars = { log_chars };
 
@@ -37,31 +37,21 @@ impl Kind for LogChars {
 
     ghost decides = { log_decides };
 
-    fn symbol_width(&self) -> usize {
-        Self::WIDTH
-    }
-
     fn read(&self, text: &[u8]) -> Result<LogChar, SymbolFault> {
-        if text.len() != 1 {
-            return Err(SymbolFault::NoMeaning);
+        match *text {
+            [code @ b' '..=b'~'] if code != b'"' => Ok(LogChar { code }),
+            _ => Err(SymbolFault::NoMeaning),
         }
-        let code = text[0];
-        if code < 32 || code > 126 || code == b'"' {
-            return Err(SymbolFault::NoMeaning);
-        }
-        Ok(LogChar { code })
     }
 
     fn write(&self, symbol: LogChar, area: &mut [u8]) -> Result<(), AreaRefusal> {
-        if area.len() < 1 {
-            return Err(AreaRefusal::ShortArea);
-        }
-        area[0] = symbol.code;
+        let first = area.first_mut().ok_or(AreaRefusal::ShortArea)?;
+        *first = symbol.code;
         Ok(())
     }
 
     fn same(&self, a: LogChar, b: LogChar) -> bool {
-        a.code == b.code
+        a == b
     }
 
     fn role(&self, symbol: LogChar) -> Role {

@@ -1,5 +1,5 @@
 // Whole texts: reading one as symbols of a kind, and writing symbols as one.
-ghost use Rattle.std.specs.Prelude.{◌≡◌, ◌*◌, ◌≤◌, length, Ok};
+ghost use Rattle.std.specs.Prelude.{◌≡◌, ◌/◌, ◌≤◌, length, IsOk};
 ghost use Rattle.std.specs.List.{flat_map};
 ghost use Rattle.symbols.specs.Answers.{answered, over};
 ghost use Rattle.symbols.specs.Kinds.{short_for, fronted};
@@ -10,41 +10,33 @@ use crate::kind::Kind;
 
 // How many symbols a text means, or its fault.
 pub fn check_text<K: Kind>(kind: &K, text: &[u8]) -> Result<usize, TextFault>
-    ensures { result ≡ counted (text_read K.Kind.meant K.Kind.wide text.now) }
+    ensures { result ≡ counted (text_read K.Kind.meant K.Kind.WIDTH text.now) }
 {
-    let wide = kind.symbol_width();
-    if text.len() % wide != 0 {
+    if text.len() % K::WIDTH != 0 {
         return Err(TextFault {
             fault: SymbolFault::NotWhole,
             at: 0,
         });
     }
-    let count = text.len() / wide;
-    let mut at: usize = 0;
-    for i in 0..count {
-        let end = at + wide;
-        if let Err(fault) = kind.read(&text[at..end]) {
-            return Err(TextFault { fault, at });
+    for (i, chars) in text.chunks_exact(K::WIDTH).enumerate() {
+        if let Err(fault) = kind.read(chars) {
+            return Err(TextFault {
+                fault,
+                at: i * K::WIDTH,
+            });
         }
-        at = end;
     }
-    Ok(count)
+    Ok(text.len() / K::WIDTH)
 }
 
 // Writes the symbols of a text that has no fault to the front of an area.
-fn fill<K: Kind>(kind: &K, text: &[u8], count: usize, area: &mut [K::Symbol])
-    requires { (counted (text_read K.Kind.meant K.Kind.wide text.now) ≡ Ok count) × (count ≤ length area.old) }
-    ensures { area.new ≡ over (symbols_in (text_read K.Kind.meant K.Kind.wide text.now)) area.old }
+fn fill<K: Kind>(kind: &K, text: &[u8], area: &mut [K::Symbol])
+    requires read { IsOk (text_read K.Kind.meant K.Kind.WIDTH text.now) }
+    requires room { length text.now / K.Kind.WIDTH ≤ length area.old }
+    ensures { area.new ≡ over (symbols_in (text_read K.Kind.meant K.Kind.WIDTH text.now)) area.old }
 {
-    let wide = kind.symbol_width();
-    let mut at: usize = 0;
-    for i in 0..count {
-        let end = at + wide;
-        let Ok(symbol) = kind.read(&text[at..end]) else {
-            unreachable()
-        };
-        area[i] = symbol;
-        at = end;
+    for (i, chars) in text.chunks_exact(K::WIDTH).enumerate() {
+        area[i] = kind.read(chars).unwrap();
     }
 }
 
@@ -54,15 +46,15 @@ pub fn read_text<K: Kind>(
     text: &[u8],
     area: &mut [K::Symbol],
 ) -> Result<usize, TextRefusal>
-    ensures answer { result ≡ read_answer (text_read K.Kind.meant K.Kind.wide text.now) area.old }
-    ensures area { area.new ≡ read_into (text_read K.Kind.meant K.Kind.wide text.now) area.old }
-    ensures tells { Tells K.Kind.chars K.Kind.wide text.now (text_read K.Kind.meant K.Kind.wide text.now) }
+    ensures answer { result ≡ read_answer (text_read K.Kind.meant K.Kind.WIDTH text.now) area.old }
+    ensures area { area.new ≡ read_into (text_read K.Kind.meant K.Kind.WIDTH text.now) area.old }
+    ensures tells { Tells K.Kind.chars K.Kind.WIDTH text.now (text_read K.Kind.meant K.Kind.WIDTH text.now) }
 {
     let count = check_text(kind, text)?;
     if area.len() < count {
         return Err(TextRefusal::Area(AreaRefusal::ShortArea));
     }
-    fill(kind, text, count, area);
+    fill(kind, text, area);
     Ok(count)
 }
 
@@ -75,15 +67,12 @@ pub fn write_text<K: Kind>(
     ensures answer { result ≡ answered (short_for (flat_map K.Kind.chars symbols.now) area.old) (length (flat_map K.Kind.chars symbols.now)) }
     ensures area { area.new ≡ fronted (flat_map K.Kind.chars symbols.now) area.old }
 {
-    let wide = kind.symbol_width();
-    if symbols.len() > area.len() / wide {
+    if symbols.len() > area.len() / K::WIDTH {
         return Err(AreaRefusal::ShortArea);
     }
-    let mut at: usize = 0;
-    for i in 0..symbols.len() {
-        let end = at + wide;
-        kind.write(symbols[i], &mut area[at..end])?;
-        at = end;
+    for (i, symbol) in symbols.iter().enumerate() {
+        let at = i * K::WIDTH;
+        kind.write(*symbol, &mut area[at..at + K::WIDTH])?;
     }
-    Ok(at)
+    Ok(symbols.len() * K::WIDTH)
 }

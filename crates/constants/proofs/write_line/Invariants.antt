@@ -8,8 +8,8 @@ use Rattle.constants.proofs.write_line.Given as goal
 abbrev pub invariant-loop-taken : goal.invariant-loop-taken
 invariant-loop-taken g l =
     (l.at ≤ length l.line)
-    × (length (line_symbols g.K.Kind.meant g.K.Kind.wide l.line) ≡ l.count + length (tokens_left g.K.Kind.meant g.K.Kind.wide l.line l.reading l.at))
-    × (over (line_symbols g.K.Kind.meant g.K.Kind.wide l.line) l.initial.area ≡ written l.count (tokens_left g.K.Kind.meant g.K.Kind.wide l.line l.reading l.at) l.area)
+    × (length (line_symbols g.K.Kind.meant g.K.Kind.WIDTH l.line) ≡ l.count + length (tokens_left g.K.Kind.meant g.K.Kind.WIDTH l.line l.reading l.at))
+    × (over (line_symbols g.K.Kind.meant g.K.Kind.WIDTH l.line) l.initial.area ≡ written l.count (tokens_left g.K.Kind.meant g.K.Kind.WIDTH l.line l.reading l.at) l.area)
 
 abbrev pub decreases-loop-taken : goal.decreases-loop-taken
 decreases-loop-taken g l = length l.line - l.at

@@ -6,11 +6,11 @@ pub write_rows-requires : goal.write_rows-requires
 write_rows-requires g c =
     let k = c.in_ok-outline.ensures in
     let o = c.in_ok-outline.outline in
-    let few = few_rows g.K.Kind.meant g.K.Kind.wide c.args.text.now o k.0 k.1 k.2 in
+    let few = few_rows g.K.Kind.meant g.K.Kind.WIDTH c.args.text.now o k.0 k.1 k.2 in
     record {
-      small = short_text g.K.Kind.meant g.K.Kind.wide c.args.text.now o k.0 k.1 k.2;
-      names = few_names g.K.Kind.meant g.K.Kind.wide c.args.text.now o k.0 k.1 k.2;
-      labels = few_labels g.K.Kind.meant g.K.Kind.wide c.args.text.now o k.0 k.1 k.2;
+      small = short_text g.K.Kind.meant g.K.Kind.WIDTH c.args.text.now o k.0 k.1 k.2;
+      names = few_names g.K.Kind.meant g.K.Kind.WIDTH c.args.text.now o k.0 k.1 k.2;
+      labels = few_labels g.K.Kind.meant g.K.Kind.WIDTH c.args.text.now o k.0 k.1 k.2;
       room = omega (arith, few);
     }
 
@@ -18,9 +18,9 @@ pub write_constants-requires : goal.write_constants-requires
 write_constants-requires g c =
     let k = c.in_ok-outline.ensures in
     let o = c.in_ok-outline.outline in
-    let few = few_symbols g.K.Kind.meant g.K.Kind.wide c.args.text.now o k.0 k.1 k.2 in
+    let few = few_symbols g.K.Kind.meant g.K.Kind.WIDTH c.args.text.now o k.0 k.1 k.2 in
     record {
-      small = short_text g.K.Kind.meant g.K.Kind.wide c.args.text.now o k.0 k.1 k.2;
+      small = short_text g.K.Kind.meant g.K.Kind.WIDTH c.args.text.now o k.0 k.1 k.2;
       room = omega (arith, few);
     }
 
@@ -29,6 +29,6 @@ find_start-requires g c =
     let k = c.in_ok-outline.ensures in
     let o = c.in_ok-outline.outline in
     record {
-      small = short_text g.K.Kind.meant g.K.Kind.wide c.args.text.now o k.0 k.1 k.2;
-      labels = few_labels g.K.Kind.meant g.K.Kind.wide c.args.text.now o k.0 k.1 k.2;
+      small = short_text g.K.Kind.meant g.K.Kind.WIDTH c.args.text.now o k.0 k.1 k.2;
+      labels = few_labels g.K.Kind.meant g.K.Kind.WIDTH c.args.text.now o k.0 k.1 k.2;
     }

@@ -9,7 +9,7 @@ use Rattle.sheets.proofs.check.check_line.Goals as goal
 
 pub returns-then-is_passed : goal.returns-then-is_passed
 returns-then-is_passed g c =
-    let reads = counts g.K.Kind.meant g.K.Kind.wide in
+    let reads = counts g.K.Kind.meant g.K.Kind.WIDTH in
     let n = carried c.args.text.now c.args.names.now c.args.labels.now c.args.before in
     subst (λ (r : Result Carried Fault). Checked (first (line_faults reads n c.args.line.now)) (with_line reads n c.args.line.now)
     c.args.text.now c.args.names.now c.args.labels.now r) (sym c.settle.ensures)
@@ -18,12 +18,12 @@ returns-then-is_passed g c =
 
 pub returns-in-Err : goal.returns-in-Err
 returns-in-Err g c =
-    check_faulty (counts g.K.Kind.meant g.K.Kind.wide) c.args.text.now c.args.line.now c.args.names.now c.args.labels.now c.args.before
+    check_faulty (counts g.K.Kind.meant g.K.Kind.WIDTH) c.args.text.now c.args.line.now c.args.names.now c.args.labels.now c.args.before
     c.own_fault-own.result c.own_fault-own.ensures c.if-is_passed.ensures c.in-Err.f c.lesser.result c.in-Err.ensures c.lesser.ensures
 
 pub returns-in-Ok : goal.returns-in-Ok
 returns-in-Ok g c =
-    let reads = counts g.K.Kind.meant g.K.Kind.wide in
+    let reads = counts g.K.Kind.meant g.K.Kind.WIDTH in
     let n = carried c.args.text.now c.args.names.now c.args.labels.now c.args.before in
     let t = c.in-Ok.ensures in
     subst (λ (r : Result Carried Fault). Checked (first (line_faults reads n c.args.line.now)) (with_line reads n c.args.line.now)

@@ -11,16 +11,16 @@ loop-taken-preserved g c =
     let w = t.within in (
       w,
       omega arith,
-      row_on (counts g.K.Kind.meant g.K.Kind.wide) (map (part_of c.args.text.now) c.args.names.now) (map (part_of c.args.text.now) c.args.labels.now) c.args.from c.args.line.now c.loop-taken.reading c.loop-taken.at c.loop-taken.row c.loop-taken.stored c.in-Some.taken t c.symbols_of-count.result c.symbols_of-count.ensures.value _ c.enter-row.result c.loop-taken.invariant.2
+      row_on (counts g.K.Kind.meant g.K.Kind.WIDTH) (map (part_of c.args.text.now) c.args.names.now) (map (part_of c.args.text.now) c.args.labels.now) c.args.from c.args.line.now c.loop-taken.reading c.loop-taken.at c.loop-taken.row c.loop-taken.stored c.in-Some.taken t c.symbols_of-count.result c.symbols_of-count.ensures.value _ c.enter-row.result c.loop-taken.invariant.2
           (c.enter-row.ensures ∙ ap (entered c.loop-taken.row) c.entry_of.ensures),
-      symbols_on (counts g.K.Kind.meant g.K.Kind.wide) (map (part_of c.args.text.now) c.args.names.now) (map (part_of c.args.text.now) c.args.labels.now) c.args.from c.args.line.now c.loop-taken.reading c.loop-taken.at c.loop-taken.row c.loop-taken.stored c.in-Some.taken t c.symbols_of-count.result c.symbols_of-count.ensures.value _ c.loop-taken.invariant.3,
+      symbols_on (counts g.K.Kind.meant g.K.Kind.WIDTH) (map (part_of c.args.text.now) c.args.names.now) (map (part_of c.args.text.now) c.args.labels.now) c.args.from c.args.line.now c.loop-taken.reading c.loop-taken.at c.loop-taken.row c.loop-taken.stored c.in-Some.taken t c.symbols_of-count.result c.symbols_of-count.ensures.value _ c.loop-taken.invariant.3,
     )
 
 pub returns : goal.returns
 returns g c =
     let e = c.in_default.ensures in
     record {
-      row = row_end (counts g.K.Kind.meant g.K.Kind.wide) (map (part_of c.args.text.now) c.args.names.now) (map (part_of c.args.text.now) c.args.labels.now) c.args.from c.args.line.now c.loop-taken.reading c.loop-taken.at c.loop-taken.row c.loop-taken.stored _ c.loop-taken.invariant.2 e;
-      symbols = symbols_end (counts g.K.Kind.meant g.K.Kind.wide) (map (part_of c.args.text.now) c.args.names.now) (map (part_of c.args.text.now) c.args.labels.now) c.args.from c.args.line.now c.loop-taken.reading c.loop-taken.at c.loop-taken.row c.loop-taken.stored _ c.loop-taken.invariant.3 e;
+      row = row_end (counts g.K.Kind.meant g.K.Kind.WIDTH) (map (part_of c.args.text.now) c.args.names.now) (map (part_of c.args.text.now) c.args.labels.now) c.args.from c.args.line.now c.loop-taken.reading c.loop-taken.at c.loop-taken.row c.loop-taken.stored _ c.loop-taken.invariant.2 e;
+      symbols = symbols_end (counts g.K.Kind.meant g.K.Kind.WIDTH) (map (part_of c.args.text.now) c.args.names.now) (map (part_of c.args.text.now) c.args.labels.now) c.args.from c.args.line.now c.loop-taken.reading c.loop-taken.at c.loop-taken.row c.loop-taken.stored _ c.loop-taken.invariant.3 e;
       few = let l = c.loop-taken.invariant.0 in let m = c.loop-taken.invariant.1 in omega (arith, l, m);
     }

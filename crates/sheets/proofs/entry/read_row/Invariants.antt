@@ -8,10 +8,10 @@ use Rattle.sheets.proofs.entry.read_row.Given as goal
 abbrev pub invariant-loop-taken : goal.invariant-loop-taken
 invariant-loop-taken g l =
     (l.at ≤ length l.line) × (l.stored ≤ l.symbols + l.at)
-    × (row_of (counts g.K.Kind.meant g.K.Kind.wide) (map (part_of l.text) l.names) (map (part_of l.text) l.labels) l.from l.line l.symbols
-    ≡ row_from (counts g.K.Kind.meant g.K.Kind.wide) (map (part_of l.text) l.names) (map (part_of l.text) l.labels) l.from l.line l.row l.stored (tokens_from l.reading l.at (drop l.at l.line)))
-    × (symbols_from (counts g.K.Kind.meant g.K.Kind.wide) (map (part_of l.text) l.names) (map (part_of l.text) l.labels) l.from l.line l.symbols (tokens l.line)
-    ≡ symbols_from (counts g.K.Kind.meant g.K.Kind.wide) (map (part_of l.text) l.names) (map (part_of l.text) l.labels) l.from l.line l.stored (tokens_from l.reading l.at (drop l.at l.line)))
+    × (row_of (counts g.K.Kind.meant g.K.Kind.WIDTH) (map (part_of l.text) l.names) (map (part_of l.text) l.labels) l.from l.line l.symbols
+    ≡ row_from (counts g.K.Kind.meant g.K.Kind.WIDTH) (map (part_of l.text) l.names) (map (part_of l.text) l.labels) l.from l.line l.row l.stored (tokens_from l.reading l.at (drop l.at l.line)))
+    × (symbols_from (counts g.K.Kind.meant g.K.Kind.WIDTH) (map (part_of l.text) l.names) (map (part_of l.text) l.labels) l.from l.line l.symbols (tokens l.line)
+    ≡ symbols_from (counts g.K.Kind.meant g.K.Kind.WIDTH) (map (part_of l.text) l.names) (map (part_of l.text) l.labels) l.from l.line l.stored (tokens_from l.reading l.at (drop l.at l.line)))
 
 abbrev pub decreases-loop-taken : goal.decreases-loop-taken
 decreases-loop-taken g l = length l.line - l.at

@@ -16,32 +16,32 @@ is_set false e = sym e
 
 pub returns-then-text-gt16384 : goal.returns-then-text-gt16384
 returns-then-text-gt16384 g c =
-    refused_long (counts g.K.Kind.meant g.K.Kind.wide) c.args.text.now (omega arith)
+    refused_long (counts g.K.Kind.meant g.K.Kind.WIDTH) c.args.text.now (omega arith)
     ∙ ap (λ (f : Refusal). Some f) (sym c.nowhere.ensures)
 
 pub returns-in_err-carried : goal.returns-in_err-carried
 returns-in_err-carried g c =
     let p = err_from_is_err_and c.from_residual.result c.from_residual.ensures.1 in
     rw (p.1, p.2)
-    (refused_line (counts g.K.Kind.meant g.K.Kind.wide) c.args.text.now (omega arith) c.in_err-carried.field-0.0 c.in_err-carried.ensures)
+    (refused_line (counts g.K.Kind.meant g.K.Kind.WIDTH) c.args.text.now (omega arith) c.in_err-carried.field-0.0 c.in_err-carried.ensures)
 
 pub returns-then-not-carried : goal.returns-then-not-carried
 returns-then-not-carried g c =
     let k = c.in_ok-carried.ensures in
-    refused_end (counts g.K.Kind.meant g.K.Kind.wide) c.args.text.now (omega arith)
+    refused_end (counts g.K.Kind.meant g.K.Kind.WIDTH) c.args.text.now (omega arith)
     (carried c.args.text.now c.check_lines.new.names c.check_lines.new.labels c.in_ok-carried.carried) k.0 k.1 (unset c.in_ok-carried.carried.ended c.if-not-carried.true)
     ∙ ap (λ (f : Refusal). Some f) (sym c.nowhere-then-not-carried.ensures)
 
 pub returns-in-Some : goal.returns-in-Some
 returns-in-Some g c =
     let k = c.in_ok-carried.ensures in
-    refused_label (counts g.K.Kind.meant g.K.Kind.wide) c.args.text.now (omega arith)
+    refused_label (counts g.K.Kind.meant g.K.Kind.WIDTH) c.args.text.now (omega arith)
     (carried c.args.text.now c.check_lines.new.names c.check_lines.new.labels c.in_ok-carried.carried) k.0 k.1 (Some c.in-Some.refusal) (is_set c.in_ok-carried.carried.ended c.if-not-carried.false) c.in-Some.ensures
 
 pub returns : goal.returns
 returns g c =
     let k = c.in_ok-carried.ensures in (
-      refused_label (counts g.K.Kind.meant g.K.Kind.wide) c.args.text.now (omega arith)
+      refused_label (counts g.K.Kind.meant g.K.Kind.WIDTH) c.args.text.now (omega arith)
           (carried c.args.text.now c.check_lines.new.names c.check_lines.new.labels c.in_ok-carried.carried) k.0 k.1 None (is_set c.in_ok-carried.carried.ended c.if-not-carried.false) c.in_default.ensures,
       k.1,
       k.2,

@@ -10,7 +10,7 @@ returns-in_err-carried g c =
     let p = err_from_is_err_and c.from_residual.result c.from_residual.ensures.1 in
     let k = c.in_err-carried.ensures in
     rw (p.1, p.2)
-    (refusal_here (counts g.K.Kind.meant g.K.Kind.wide) c.args.text.now c.loop-from.from c.loop-from.number
+    (refusal_here (counts g.K.Kind.meant g.K.Kind.WIDTH) c.args.text.now c.loop-from.from c.loop-from.number
     (carried c.args.text.now c.loop-from.names c.loop-from.labels c.loop-from.carried)
     c.line_end-end.result (omega arith) c.line_end-end.ensures.above c.line_end-end.ensures.value _ c.in_err-carried.field-0.0
     c.loop-from.invariant.3 k.0 k.1)
@@ -23,16 +23,16 @@ loop-from-preserved g c =
       omega arith,
       omega arith,
       k.2,
-      refusal_on (counts g.K.Kind.meant g.K.Kind.wide) c.args.text.now c.loop-from.from c.loop-from.number n
+      refusal_on (counts g.K.Kind.meant g.K.Kind.WIDTH) c.args.text.now c.loop-from.from c.loop-from.number n
           c.line_end-end.result (omega arith) c.line_end-end.ensures.above c.line_end-end.ensures.value _ m c.loop-from.invariant.3 k.0 k.1,
-      brought_on (counts g.K.Kind.meant g.K.Kind.wide) c.args.text.now c.loop-from.from c.loop-from.number n
+      brought_on (counts g.K.Kind.meant g.K.Kind.WIDTH) c.args.text.now c.loop-from.from c.loop-from.number n
           c.line_end-end.result (omega arith) c.line_end-end.ensures.above c.line_end-end.ensures.value _ m c.loop-from.invariant.4 k.1,
     )
 
 pub returns : goal.returns
 returns g c =
     let n = carried c.args.text.now c.loop-from.names c.loop-from.labels c.loop-from.carried in (
-      refusal_end (counts g.K.Kind.meant g.K.Kind.wide) c.args.text.now c.loop-from.from c.loop-from.number n _ c.loop-from.invariant.3 (omega arith),
-      brought_end (counts g.K.Kind.meant g.K.Kind.wide) c.args.text.now c.loop-from.from c.loop-from.number n _ c.loop-from.invariant.4 (omega arith),
+      refusal_end (counts g.K.Kind.meant g.K.Kind.WIDTH) c.args.text.now c.loop-from.from c.loop-from.number n _ c.loop-from.invariant.3 (omega arith),
+      brought_end (counts g.K.Kind.meant g.K.Kind.WIDTH) c.args.text.now c.loop-from.from c.loop-from.number n _ c.loop-from.invariant.4 (omega arith),
       c.loop-from.invariant.2,
     )

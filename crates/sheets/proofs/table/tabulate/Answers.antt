@@ -24,7 +24,7 @@ words text ps n ws e = let z : n - 0 ≡ n = omega arith in ap (λ (k : ℕ). ma
 
 pub write_rows-requires : goal.write_rows-requires
 write_rows-requires g c =
-    let reads = counts g.K.Kind.meant g.K.Kind.wide in
+    let reads = counts g.K.Kind.meant g.K.Kind.WIDTH in
     let text = c.args.text.now in
     let o = c.in_ok-outline.outline in
     let k = c.in_ok-outline.ensures in
@@ -40,7 +40,7 @@ write_rows-requires g c =
 
 pub returns : goal.returns
 returns g c =
-    let reads = counts g.K.Kind.meant g.K.Kind.wide in
+    let reads = counts g.K.Kind.meant g.K.Kind.WIDTH in
     let text = c.args.text.now in
     let o = c.in_ok-outline.outline in
     let k = c.in_ok-outline.ensures in

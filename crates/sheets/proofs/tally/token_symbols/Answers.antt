@@ -11,7 +11,7 @@ returns g c =
     let s = c.args.line.now in
     let n = told c.args.text.now c.args.names.now c.args.tally in
     let t = c.args.token in
-    let reads = counts g.K.Kind.meant g.K.Kind.wide in
+    let reads = counts g.K.Kind.meant g.K.Kind.WIDTH in
     let others : c.least-fault.result ≡ least (least (first (long_name s t)) (first (ninth n.elements n.operands t))) (first (extra_name s n t)) =
     three c.long_name.result c.ninth.result c.extra_name.result c.least.result c.least-fault.result
     (first (long_name s t)) (first (ninth n.elements n.operands t)) (first (extra_name s n t))

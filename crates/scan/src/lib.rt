@@ -45,7 +45,7 @@ pub fn scan<K: Kind>(
 #[cfg(test)]
 mod tests {
     use super::*;
-    use crate::answer::Verdict;
+    use crate::answer::{Placed, Verdict};
     use crate::element::{Source, Variable};
     use std::test::Fail;
     use symbols::bus::BusEvents;
@@ -91,34 +91,37 @@ mod tests {
         Ok(scan(&LogChars, &s[0..n], &c[0..m], elements, mode, allowance))
     }
 
-    // An answer as numbers: start, count, ends and trials of a success; 0 and trials of a failure; a refusal's number.
-    fn told(answer: Result<Scanned, ScanRefusal>) -> (usize, usize, [usize; 8], usize) {
-        match answer {
-            Ok(scanned) => match scanned.verdict {
-                Verdict::Success(placed) => {
-                    let ends = placed.ends;
-                    (placed.start, placed.count, ends, scanned.trials)
-                }
-                Verdict::Failure => (0, 0, [0; 8], scanned.trials),
-            },
-            Err(refusal) => (refusal as usize, 0, [0; 8], 0),
-        }
+    // The answer of a scan that placed its pattern.
+    fn success(
+        start: usize,
+        count: usize,
+        ends: [usize; 8],
+        trials: usize,
+    ) -> Result<Scanned, ScanRefusal> {
+        let verdict = Verdict::Success(Placed { start, count, ends });
+        Ok(Scanned { verdict, trials })
+    }
+
+    // The answer of a scan that found no placing.
+    fn failure(trials: usize) -> Result<Scanned, ScanRefusal> {
+        let verdict = Verdict::Failure;
+        Ok(Scanned { verdict, trials })
     }
 
     #[test]
     fn examples(rt: HostRuntime) -> Result<(), Fail> {
         let sep = [THE, ANY, IS];
         assert_eq!(rt;
-            told(scan_log(b"THERAPIST", b"THEIS", &sep, Mode::Unanchored, 1000)?),
-            (0, 3, [3, 6, 8, 0, 0, 0, 0, 0], 7)
+            scan_log(b"THERAPIST", b"THEIS", &sep, Mode::Unanchored, 1000)?,
+            success(0, 3, [3, 6, 8, 0, 0, 0, 0, 0], 7)
         );
         assert_eq!(rt;
-            told(scan_log(b"THERAPIST", b"THEIS", &sep, Mode::Unanchored, 7)?),
-            (0, 3, [3, 6, 8, 0, 0, 0, 0, 0], 7)
+            scan_log(b"THERAPIST", b"THEIS", &sep, Mode::Unanchored, 7)?,
+            success(0, 3, [3, 6, 8, 0, 0, 0, 0, 0], 7)
         );
         assert_eq!(rt;
-            told(scan_log(b"THERAPIST", b"THEIS", &sep, Mode::Unanchored, 6)?),
-            (25, 0, [0; 8], 0)
+            scan_log(b"THERAPIST", b"THEIS", &sep, Mode::Unanchored, 6)?,
+            Err(ScanRefusal::Spent)
         );
         let group = [
             ONE,
@@ -130,34 +133,34 @@ mod tests {
             TWO,
         ];
         assert_eq!(rt;
-            told(scan_log(
+            scan_log(
                 b"(C,D)(A,B)(D,C)(A,B)",
                 b"()",
                 &group,
                 Mode::Unanchored,
                 1_000_000,
-            )?,),
-            (5, 7, [6, 9, 10, 15, 16, 19, 20, 0], 87)
+            )?,
+            success(5, 7, [6, 9, 10, 15, 16, 19, 20, 0], 87)
         );
         assert_eq!(rt;
-            told(scan_log(b")", b"", &[EVEN], Mode::Unanchored, 1000)?),
-            (0, 0, [0; 8], 2)
+            scan_log(b")", b"", &[EVEN], Mode::Unanchored, 1000)?,
+            failure(2)
         );
         assert_eq!(rt;
-            told(scan_log(b"", b"", &[ANY], Mode::Unanchored, 1000)?),
-            (0, 1, [0; 8], 2)
+            scan_log(b"", b"", &[ANY], Mode::Unanchored, 1000)?,
+            success(0, 1, [0; 8], 2)
         );
         assert_eq!(rt;
-            told(scan_log(b"", b"A", &[ONE], Mode::Unanchored, 1000)?),
-            (0, 0, [0; 8], 1)
+            scan_log(b"", b"A", &[ONE], Mode::Unanchored, 1000)?,
+            failure(1)
         );
         assert_eq!(rt;
-            told(scan_log(b"BA", b"A", &[ONE], Mode::Unanchored, 1000)?),
-            (1, 1, [2, 0, 0, 0, 0, 0, 0, 0], 3)
+            scan_log(b"BA", b"A", &[ONE], Mode::Unanchored, 1000)?,
+            success(1, 1, [2, 0, 0, 0, 0, 0, 0, 0], 3)
         );
         assert_eq!(rt;
-            told(scan_log(b"BA", b"A", &[ONE], Mode::Anchored, 1000)?),
-            (0, 0, [0; 8], 1)
+            scan_log(b"BA", b"A", &[ONE], Mode::Anchored, 1000)?,
+            failure(1)
         );
         Ok(())
     }
@@ -172,51 +175,78 @@ mod tests {
             return Err(Fail::new("no subject"));
         };
         assert_eq!(rt;
-            told(scan(&BusEvents, &s, &[], &[EVEN], Mode::Unanchored, 1000)),
-            (0, 1, [3, 0, 0, 0, 0, 0, 0, 0], 2)
+            scan(&BusEvents, &s, &[], &[EVEN], Mode::Unanchored, 1000),
+            success(0, 1, [3, 0, 0, 0, 0, 0, 0, 0], 2)
         );
         Ok(())
     }
 
     #[test]
     fn bounds(rt: HostRuntime) -> Result<(), Fail> {
-        assert_eq!(rt; told(scan_log(b"A", b"A", &[], Mode::Unanchored, 1)?).0, 27);
         assert_eq!(rt;
-            told(scan_log(b"A", b"A", &[ANY; 9], Mode::Unanchored, 1)?).0,
-            27
+            scan_log(b"A", b"A", &[], Mode::Unanchored, 1)?,
+            Err(ScanRefusal::OutOfRange)
         );
         assert_eq!(rt;
-            told(scan_log(b"A", b"A", &[TWO], Mode::Unanchored, 1)?).0,
-            27
+            scan_log(b"A", b"A", &[ANY; 9], Mode::Unanchored, 1)?,
+            Err(ScanRefusal::OutOfRange)
         );
         assert_eq!(rt;
-            told(scan_log(
+            scan_log(b"A", b"A", &[TWO], Mode::Unanchored, 1)?,
+            Err(ScanRefusal::OutOfRange)
+        );
+        assert_eq!(rt;
+            scan_log(
                 b"A",
                 b"A",
                 &[Element::Compared(Source::Back(0))],
                 Mode::Unanchored,
                 1,
-            )?,)
-            .0,
-            27
+            )?,
+            Err(ScanRefusal::OutOfRange)
         );
         assert_eq!(rt;
-            told(scan_log(b"A", b"A", &[ANY], Mode::Unanchored, 0)?).0,
-            27
+            scan_log(b"A", b"A", &[ANY], Mode::Unanchored, 0)?,
+            Err(ScanRefusal::OutOfRange)
         );
         assert_eq!(rt;
-            told(scan_log(b"A", b"A", &[ANY], Mode::Unanchored, 1_000_001)?).0,
-            27
+            scan_log(b"A", b"A", &[ANY], Mode::Unanchored, 1_000_001)?,
+            Err(ScanRefusal::OutOfRange)
         );
         assert_eq!(rt;
-            told(scan_log(
+            scan_log(
                 b"A",
                 b"A",
                 &[NULL, Element::Fixed(usize::MAX)],
                 Mode::Unanchored,
                 1000,
-            )?,),
-            (0, 0, [0; 8], 4)
+            )?,
+            failure(4)
+        );
+        Ok(())
+    }
+
+    #[test]
+    fn told(rt: HostRuntime) -> Result<(), Fail> {
+        let Ok(Verdict::Success(placed)) = scan_log(
+            b"BAC",
+            b"AC",
+            &[ONE, TWO],
+            Mode::Unanchored,
+            1000,
+        )?.map(|told| told.verdict) else {
+            return Err(Fail::new("no placing"));
+        };
+        assert_eq!(rt; placed.ends(), [2, 3].as_slice());
+        assert_eq!(rt; ScanRefusal::Spent.number(), 25);
+        assert_eq!(rt; ScanRefusal::OutOfRange.number(), 27);
+        assert_eq!(rt;
+            ScanRefusal::Spent.to_string(rt.alloc())?.as_str(),
+            "the trials exceed the allowance"
+        );
+        assert_eq!(rt;
+            ScanRefusal::OutOfRange.to_string(rt.alloc())?.as_str(),
+            "out of range"
         );
         Ok(())
     }

@@ -1,80 +1,13 @@
 // Shows whether a sheet is accepted: its counts, or its refusal the way people like to see it.
 #![tactic(auto)]
 
-use anyhow::anyhow;
-use sheets::fault::{Cause, Refusal};
+use anyhow::Context;
+use refusals::Refused;
+use sheets::fault::Refusal;
 use sheets::outline::{Outline, survey};
-use std::alloc::{AllocError, Global};
 use std::{env, fs};
 use symbols::bus::BusEvents;
-use symbols::kind::Kind;
 use symbols::log::LogChars;
-
-// What is wrong, in plain words.
-fn words(cause: Cause) -> &'static str {
-    match cause {
-        Cause::TextLong => "the text is longer than 16,384 characters",
-        Cause::LineLong => "the line is longer than 120 characters",
-        Cause::BadCode => "this character may not stand in a sheet",
-        Cause::NoStatement => "no statement goes on like this",
-        Cause::LongName => "a name or a label has at most 16 characters",
-        Cause::Symbol(_) => "the literal is not read as symbols",
-        Cause::TooMany => "this is one too many",
-        Cause::SecondLabel => "another statement has this label",
-        Cause::UnknownLabel => "no statement has this label",
-        Cause::End => "END's line is missing, or something follows it",
-        Cause::ShortArea => "the areas of the host are too short",
-    }
-}
-
-// The line of a number, counted from 1, with `?` for what cannot be printed.
-fn line_of(heap: Global, text: &[u8], number: usize) -> Result<String, AllocError> {
-    let mut line = String::new(heap);
-    let mut current: usize = 1;
-    for c in text {
-        if *c == b'\n' {
-            current = current.saturating_add(1);
-        } else if current == number {
-            line.push(if *c >= 32 && *c <= 126 {
-                *c as char
-            } else {
-                '?'
-            })?;
-        }
-    }
-    Ok(line)
-}
-
-// As many blanks as stand before a column.
-fn blanks_before(heap: Global, column: usize) -> Result<String, AllocError> {
-    let mut blanks = String::new(heap);
-    for _ in 1..column {
-        blanks.push(' ')?;
-    }
-    Ok(blanks)
-}
-
-fn show_refusal(rt: &HostRuntime, text: &[u8], refusal: Refusal) -> anyhow::Result<()> {
-    let number = refusal.cause.number();
-    let layer = refusal.cause.layer();
-    let (line, column) = (refusal.line, refusal.column);
-    print!(rt; "refused {number} line {line} column {column} layer {layer}")?;
-    if let Cause::Symbol(fault) = refusal.cause {
-        let fault = fault.number();
-        print!(rt; " symbol {fault}")?;
-    }
-    println!(rt; "")?;
-    let why = words(refusal.cause);
-    if line == 0 {
-        println!(rt; "{why}")?;
-        return Ok(());
-    }
-    let shown = line_of(rt.alloc(), text, line)?;
-    let blanks = blanks_before(rt.alloc(), column)?;
-    println!(rt; "{shown}")?;
-    println!(rt; "{blanks}^ {why}")?;
-    Ok(())
-}
 
 fn show(rt: &HostRuntime, text: &[u8], answer: Result<Outline, Refusal>) -> anyhow::Result<()> {
     match answer {
@@ -86,29 +19,24 @@ fn show(rt: &HostRuntime, text: &[u8], answer: Result<Outline, Refusal>) -> anyh
                 carried.symbols,
             );
             println!(rt; "ok {statements} {names} {constants}")?;
-            Ok(())
         }
-        Err(refusal) => show_refusal(rt, text, refusal),
+        Err(refusal) => println!(rt; "{}", Refused { text, refusal })?,
     }
+    Ok(())
 }
 
 fn run(rt: &HostRuntime) -> anyhow::Result<()> {
-    let mut args = env::args(rt)?;
-    let _ = args.next();
-    let Some(path) = args.next() else {
-        return Err(anyhow!("usage: sheet FILE [bus]"));
-    };
+    let mut args = env::args(rt)?.skip(1);
+    let path = args.next().context("usage: sheet FILE [bus]")?;
     let text = fs::read(rt, path.as_str())?;
-    let bus = match args.next() {
-        Some(kind) => kind.as_str() == "bus",
-        None => false,
-    };
     let text = text.as_slice();
-    if bus {
-        show(rt, text, survey(&BusEvents, text))
+    let bus = args.next().is_some_and(|kind| kind.as_str() == "bus");
+    let answer = if bus {
+        survey(&BusEvents, text)
     } else {
-        show(rt, text, survey(&LogChars, text))
-    }
+        survey(&LogChars, text)
+    };
+    show(rt, text, answer)
 }
 
 fn main(rt: HostRuntime) -> anyhow::Result<()> {

@@ -1,0 +1,97 @@
+// A refused sheet as people like to see it.
+#![tactic(auto)]
+
+use lines::text::Lines;
+use sheets::fault::{Cause, Refusal};
+use std::fmt;
+
+// What is wrong, in plain words.
+#[derive(Clone, Copy)]
+struct Words(Cause);
+
+impl fmt::Display for Words {
+    fn fmt<W: fmt::Write>(&self, f: &mut fmt::Formatter<W>) -> fmt::Result {
+        f.write_str(match self.0 {
+            Cause::TextLong => "the text is longer than 16,384 characters",
+            Cause::LineLong => "the line is longer than 120 characters",
+            Cause::BadCode => "this character may not stand in a sheet",
+            Cause::NoStatement => "no statement goes on like this",
+            Cause::LongName => "a name or a label has at most 16 characters",
+            Cause::Symbol(_) => "the literal is not read as symbols",
+            Cause::TooMany => "this is one too many",
+            Cause::SecondLabel => "another statement has this label",
+            Cause::UnknownLabel => "no statement has this label",
+            Cause::End => "END's line is missing, or something follows it",
+            Cause::ShortArea => "the areas of the host are too short",
+        })
+    }
+}
+
+// The characters of a line, with `?` for what cannot be printed.
+#[derive(Clone, Copy)]
+struct Printable<'a>(&'a [u8]);
+
+impl<'a> fmt::Display for Printable<'a> {
+    fn fmt<W: fmt::Write>(&self, f: &mut fmt::Formatter<W>) -> fmt::Result {
+        for c in self.0 {
+            let c = if matches!(*c, 32..=126) { *c } else { b'?' };
+            f.write_char(c as char)?;
+        }
+        Ok(())
+    }
+}
+
+// A refusal of a text: its numbers; then the line that has it, with a caret under the column, and what is wrong.
+#[derive(Clone, Copy)]
+pub struct Refused<'a> {
+    pub text: &'a [u8],
+    pub refusal: Refusal,
+}
+
+impl<'a> fmt::Display for Refused<'a> {
+    fn fmt<W: fmt::Write>(&self, f: &mut fmt::Formatter<W>) -> fmt::Result {
+        let Refusal {
+            line,
+            column,
+            cause,
+        } = self.refusal;
+        let (number, layer, words) = (cause.number(), cause.layer(), Words(cause));
+        write!(
+            f,
+            "refused {number} line {line} column {column} layer {layer}"
+        )?;
+        if let Cause::Symbol(fault) = cause {
+            let fault = fault.number();
+            write!(f, " symbol {fault}")?;
+        }
+        if line == 0 {
+            return write!(f, "\n{words}");
+        }
+        let place = Lines::of(self.text).nth(line - 1);
+        let shown = Printable(place.map_or(&[], |place| place.line));
+        write!(f, "\n{shown}\n{:>column$} {words}", '^')
+    }
+}
+
+#[cfg(test)]
+mod tests {
+    use crate::Refused;
+    use sheets::fault::{Cause, Refusal};
+
+    #[test]
+    fn second_line(rt: HostRuntime) {
+        let refused = Refused {
+            text: b"A\n\x01B C\nEND",
+            refusal: Refusal {
+                line: 2,
+                column: 1,
+                cause: Cause::BadCode,
+            },
+        };
+        let shown = refused.to_string(rt.alloc()).expect(&rt, "memory");
+        assert_eq!(rt;
+            shown.as_str(),
+            "refused 3 line 2 column 1 layer 2\n?B C\n^ this character may not stand in a sheet"
+        );
+    }
+}

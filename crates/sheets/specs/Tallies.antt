@@ -26,10 +26,13 @@ pub record Count : Type 0 where
   pub symbols : ℕ
   pub names : List (List ℕ)
 
+-- what a tally counts, beside names
+abbrev pub counting : List (List ℕ) → Tally → Count
+counting names t = record { elements = t.elements; operands = t.operands; symbols = t.symbols; names = names }
+
 -- what a tally means, its names being parts of the text
 abbrev pub told : List ℕ → List Part → Tally → Count
-told text names t =
-    record { elements = t.elements; operands = t.operands; symbols = t.symbols; names = map (part_of text) (take t.names names) }
+told text names t = counting (map (part_of text) (take t.names names)) t
 
 -- a tally that goes over no limit
 pub record Within (t : Tally) : Type 0 where
@@ -70,9 +73,9 @@ absent None = true
 absent (Some k) = false
 
 -- a name that is new after 64 others, at its first character
-abbrev pub extra_name : List ℕ → Count → Token → List Fault
-extra_name s n t =
-    when (brings_name s t && (nat_le 64 (length n.names) && absent (position (spelling s t) n.names))) (fault ((word s t).start + 1) Cause.TooMany)
+abbrev pub extra_name : List ℕ → List (List ℕ) → Token → List Fault
+extra_name s names t =
+    when (brings_name s t && (nat_le 64 (length names) && absent (position (spelling s t) names))) (fault ((word s t).start + 1) Cause.TooMany)
 
 -- how many elements a token begins: one or none
 abbrev pub elements_opened : Opened → ℕ
@@ -142,7 +145,7 @@ module _ (reads : List ℕ → Result ℕ TextFault) where
   -- the faults of a token where n is counted before it
   unfoldable pub token_faults : List ℕ → Count → Token → List Fault
   token_faults s n t =
-      ((long_name s t ++ ninth n.elements n.operands t) ++ extra_name s n t) ++ literal_faults (literal s t) n.symbols t
+      ((long_name s t ++ ninth n.elements n.operands t) ++ extra_name s n.names t) ++ literal_faults (literal s t) n.symbols t
 
   -- what is counted with a token
   unfoldable pub with_token : List ℕ → Count → Token → Count

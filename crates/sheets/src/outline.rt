@@ -6,7 +6,7 @@ ghost use Rattle.sheets.specs.Tallies.{counts};
 use crate::check::Carried;
 use crate::fault::{Cause, Refusal};
 use crate::labels::unknown_label;
-use crate::part::Part;
+use crate::part::{Part, Words};
 use crate::reader::check_lines;
 use symbols::kind::Kind;
 
@@ -41,7 +41,8 @@ pub fn survey<K: Kind>(kind: &K, text: &[u8]) -> Result<Outline, Refusal>
     if !carried.ended {
         return Err(nowhere(Cause::End));
     }
-    if let Some(refusal) = unknown_label(text, &labels, carried.statements) {
+    let known = Words::first(text, &labels, carried.statements);
+    if let Some(refusal) = unknown_label(known) {
         return Err(refusal);
     }
     Ok(Outline {

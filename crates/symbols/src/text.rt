@@ -19,12 +19,10 @@ pub fn check_text<K: Kind>(kind: &K, text: &[u8]) -> Result<usize, TextFault>
         });
     }
     for (i, chars) in text.chunks_exact(K::WIDTH).enumerate() {
-        if let Err(fault) = kind.read(chars) {
-            return Err(TextFault {
-                fault,
-                at: i * K::WIDTH,
-            });
-        }
+        kind.read(chars).map_err(|fault| TextFault {
+            fault,
+            at: i * K::WIDTH,
+        })?;
     }
     Ok(text.len() / K::WIDTH)
 }

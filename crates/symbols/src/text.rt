@@ -68,6 +68,7 @@ pub fn write_text<K: Kind>(
     if symbols.len() > area.len() / K::WIDTH {
         return Err(AreaRefusal::ShortArea);
     }
+    // By places: of parts that `chunks_exact_mut` lends, a proof knows the lengths but not what was written.
     for (i, symbol) in symbols.iter().enumerate() {
         let at = i * K::WIDTH;
         kind.write(*symbol, &mut area[at..at + K::WIDTH])?;

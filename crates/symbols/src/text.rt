@@ -19,12 +19,10 @@ pub fn check_text<K: Kind>(kind: &K, text: &[u8]) -> Result<usize, TextFault>
         });
     }
     for (i, chars) in text.chunks_exact(K::WIDTH).enumerate() {
-        if let Err(fault) = kind.read(chars) {
-            return Err(TextFault {
-                fault,
-                at: i * K::WIDTH,
-            });
-        }
+        kind.read(chars).map_err(|fault| TextFault {
+            fault,
+            at: i * K::WIDTH,
+        })?;
     }
     Ok(text.len() / K::WIDTH)
 }
@@ -70,6 +68,7 @@ pub fn write_text<K: Kind>(
     if symbols.len() > area.len() / K::WIDTH {
         return Err(AreaRefusal::ShortArea);
     }
+    // By places: of parts that `chunks_exact_mut` lends, a proof knows the lengths but not what was written.
     for (i, symbol) in symbols.iter().enumerate() {
         let at = i * K::WIDTH;
         kind.write(*symbol, &mut area[at..at + K::WIDTH])?;

@@ -1,8 +1,12 @@
-use Rattle.std.proofs.Common.{◌≡◌, ◌*◌, ◌/◌, ◌%◌, length, Ok, sym, ap, ◌∙◌, suc-mul, arith, rules}
+use Rattle.std.proofs.Common.{◌≡◌, ◌*◌, ◌/◌, ◌%◌, length, Ok, Err, sym, ap, ◌∙◌, suc-mul, arith, rules}
 use Rattle.std.proofs.lemmas.List.{length-append}
+use Rattle.std.proofs.lemmas.Result.{err_from_is_err_and}
 use Rattle.std.proofs.lemmas.Nat.{div-mul-add}
 use Rattle.std.specs.Iterator.Adapters.{enumerate_count, enumerate_source}
 use Rattle.std.specs.Slice.Iter.{chunks_exact_rest, chunks_exact_size}
+use Rattle.symbols.specs.Kinds.{read_as}
+use Rattle.symbols.specs.declared.fault.SymbolFault.{SymbolFault}
+use Rattle.symbols.specs.declared.fault.TextFault.{TextFault}
 use Rattle.symbols.specs.Texts.{text_read, counted}
 use Rattle.symbols.proofs.TextLaws.{read_not_whole, count_starts, count_stops, count_goes, count_ends}
 use Rattle.symbols.proofs.text.check_text.Goals as goal
@@ -38,7 +42,7 @@ loop-i-preserved g c =
       is_finite = tt;
       size = steps.0.0 ∙ c.loop-i.invariant.size;
       place = rw n (omega (arith, suc-mul i w, ap length e, length-append c.in-Some.chars.now (chunks_exact_rest (enumerate_source c.next.new.self))));
-      told = rw n (c.loop-i.invariant.told ∙ count_goes g.K.Kind.meant w g.met.K.Kind.wide_some i (chunks_exact_rest (enumerate_source c.loop-i.i-iterator)) c.in-Some.chars.now (chunks_exact_rest (enumerate_source c.next.new.self)) e l c.in_default.field-0 c.in_default.ensures);
+      told = rw n (c.loop-i.invariant.told ∙ count_goes g.K.Kind.meant w g.met.K.Kind.wide_some i (chunks_exact_rest (enumerate_source c.loop-i.i-iterator)) c.in-Some.chars.now (chunks_exact_rest (enumerate_source c.next.new.self)) e l c.in_ok-map_err.field-0 (search rules));
     }
 
 pub returns : goal.returns
@@ -51,10 +55,12 @@ returns g c =
     let k : length c.args.text.now / w ≡ i = ap (λ n. n / w) (sym c.loop-i.invariant.place) ∙ div-mul-add i w (length s) h in
     ap (λ w. Ok (length c.args.text.now / w)) c.WIDTH-3.ensures ∙ ap Ok k ∙ sym (c.loop-i.invariant.told ∙ count_ends g.K.Kind.meant w g.met.K.Kind.wide_some i (i * w) s h)
 
-pub returns-in-Err : goal.returns-in-Err
-returns-in-Err g c =
+pub returns-in_err-map_err : goal.returns-in_err-map_err
+returns-in_err-map_err g c =
     let steps = c.in-Some.ensures.steps in
     let i = enumerate_count c.loop-i.i-iterator in
     let w = g.K.Kind.WIDTH in
-    let m : c.in-Some.i * c.WIDTH-in-Err.result ≡ i * w = rw (steps.1, c.WIDTH-in-Err.ensures) in
-    rw m (sym (c.loop-i.invariant.told ∙ count_stops g.K.Kind.meant w g.met.K.Kind.wide_some i (chunks_exact_rest (enumerate_source c.loop-i.i-iterator)) c.in-Some.chars.now (chunks_exact_rest (enumerate_source c.next.new.self)) steps.0.1.0 (steps.0.1.1 ∙ c.loop-i.invariant.size) c.in-Err.fault c.in-Err.ensures))
+    let q : (f : SymbolFault) × (Err f ≡ read_as (g.K.Kind.meant c.in-Some.chars.now)) × (c.in_err-map_err.field-0.0 ≡ record { fault = f; at = c.in-Some.i * w }) = search rules in
+    let p = err_from_is_err_and c.from_residual.result c.from_residual.ensures.1 in
+    p.1 ∙ ap Err (p.2 ∙ q.2 ∙ ap (λ j. let f : TextFault = record { fault = q.0; at = j * w } in f) steps.1)
+    ∙ sym (c.loop-i.invariant.told ∙ count_stops g.K.Kind.meant w g.met.K.Kind.wide_some i (chunks_exact_rest (enumerate_source c.loop-i.i-iterator)) c.in-Some.chars.now (chunks_exact_rest (enumerate_source c.next.new.self)) steps.0.1.0 (steps.0.1.1 ∙ c.loop-i.invariant.size) q.0 q.1)

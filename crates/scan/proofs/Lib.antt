@@ -1,7 +1,6 @@
 pub mod Parts
 pub mod Walks
 pub mod Blocks
-pub mod Sizes
 pub mod Stack
 pub mod Suiting
 pub mod Courses

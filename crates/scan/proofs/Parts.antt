@@ -1,8 +1,7 @@
 -- Parts of a subject, symbol by symbol. Assumes nothing.
-use Rattle.std.proofs.Common.{◌≡◌, ℕ, suc, ◌+◌, ◌-◌, ◌<◌, ◌≤◌, Bool, false, ◌&&◌, ◌⊎◌, List, [], ◌∷◌, length, get_or, Some, None, Option, refl, ap, ◌∙◌, inl, inr, arith}
-use Rattle.std.proofs.lemmas.List.{length-take, length-drop, drop_more}
+use Rattle.std.proofs.Common.{◌≡◌, ℕ, suc, ◌+◌, ◌-◌, ◌<◌, ◌≤◌, Bool, true, false, ◌&&◌, ◌⊎◌, List, [], ◌∷◌, length, get_or, drop, Some, None, Option, refl, ap, ◌∙◌, inl, inr, arith}
+use Rattle.std.proofs.lemmas.List.{length-take, length-drop, drop_more, drop_all}
 use Rattle.std.proofs.lemmas.Bool.{and_right, cases_lt}
-use Rattle.std.specs.List.{list_all, zip}
 use Rattle.placings.specs.Pattern.{part}
 use Rattle.placings.specs.Enumeration.{same_parts}
 use Rattle.scan.specs.Ends.{Next}
@@ -25,12 +24,11 @@ module _ {A : Type 0} (eq : A → A → Bool) where
   same_lengths (x ∷ xs) [] n = refl
   same_lengths (x ∷ xs) (y ∷ ys) n = and_right (eq x y) (same_parts eq xs ys) (same_lengths xs ys (λ e. n (ap suc e)))
 
-  -- parts of one length are equal where all their symbols are
-  pub same_zipped : (xs ys : List A) → length xs ≡ length ys → list_all (λ p. eq p.0 p.1) (zip xs ys) ≡ same_parts eq xs ys
-  same_zipped [] [] e = refl
-  same_zipped [] (y ∷ ys) e = absurd (omega arith)
-  same_zipped (x ∷ xs) [] e = absurd (omega arith)
-  same_zipped (x ∷ xs) (y ∷ ys) e = ap (λ b. eq x y && b) (same_zipped xs ys (omega arith))
+  pub same_more : (xs ys : List A) (i : ℕ) (x y : A) → i < length xs → i < length ys → x ≡ get_or xs i x → y ≡ get_or ys i y → same_parts eq (drop i xs) (drop i ys) ≡ (eq x y && same_parts eq (drop (i + 1) xs) (drop (i + 1) ys))
+  same_more xs ys i x y a b p q = rw (drop_more xs i x a, drop_more ys i y b, ← p, ← q)
+
+  pub same_all : (xs ys : List A) (i : ℕ) → length xs ≤ i → length xs ≡ length ys → same_parts eq (drop i xs) (drop i ys) ≡ true
+  same_all xs ys i l e = let m : length ys ≤ i = omega arith in rw (drop_all i xs l, drop_all i ys m)
 
 -- the same of a test that answers the same from c to n
 pub next_like : (t u : ℕ → Bool) (n c : ℕ) (r : Option ℕ) → ((k : ℕ) → c ≤ k → k ≤ n → u k ≡ t k) → Next t n c r → Next u n c r

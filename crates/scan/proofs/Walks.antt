@@ -29,16 +29,6 @@ moves_few Plain d o e l m = omega arith
 pub moves_by : (r q : Role) (d o : ℕ) → q ≡ r → Moves r d o → Moves q d o
 moves_by r q d o e m = subst (λ x. Moves x d o) (sym e) m
 
-pub plain_is : (r : Role) → (r ≡ Closing → ⊥) → (r ≡ Opening → ⊥) → r ≡ Plain
-plain_is Opening c o = absurd (o refl)
-plain_is Closing c o = absurd (c refl)
-plain_is Plain c o = refl
-
-pub closing_is : (r : Role) → (r ≡ Plain → ⊥) → (r ≡ Opening → ⊥) → r ≡ Closing
-closing_is Opening p o = absurd (o refl)
-closing_is Closing p o = refl
-closing_is Plain p o = absurd (p refl)
-
 module _ {A : Type 0} (role : A → Role) (s : List A) (a : ℕ) where
   -- at e, with d open, none of which was the last: no end so far
   pub record Walk (e d : ℕ) : Type 0 where

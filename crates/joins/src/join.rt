@@ -31,8 +31,7 @@ fn join_one<K: Kind, R: Strings<Symbol = K::Symbol>>(
             Ok(())
         }
         Operand::Contents(reference) => {
-            let number =
-                meant_by(listing, strings, reference, scratch).ok_or(JoinRefusal::NoName)?;
+            let number = meant_by(listing, strings, reference, scratch).ok_or(JoinRefusal::NoName)?;
             let length = contents(strings, number, scratch);
             joined.append(&scratch[0..length]);
             Ok(())

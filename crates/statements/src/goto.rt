@@ -25,7 +25,11 @@ fn following(statements: usize, number: usize) -> Next
 fn labelled_by<K: Kind>(listing: Listing<K>, symbols: &[K::Symbol]) -> Option<Next>
     ensures { result ≡ labelled_by K.Kind.chars listing.entry.rows.now symbols.now }
 {
-    spelled_by(listing.kind, symbols, |chars| find_label(listing.rows, chars))
+    spelled_by(
+        listing.kind,
+        symbols,
+        |chars| find_label(listing.rows, chars),
+    )
 }
 
 // Where a go-to of statement `number` leads under the strings that can be read; the area takes what `$` reads.

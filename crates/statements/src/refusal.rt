@@ -33,7 +33,10 @@ impl fmt::Display for StatementRefusal {
             StatementRefusal::ShortArea => write!(f, "a work area is too short"),
             StatementRefusal::NoName => write!(f, "`$` yields no name or label of the sheet"),
             StatementRefusal::Spent => write!(f, "the trials are more than the allowance"),
-            StatementRefusal::TooLong => write!(f, "a written string, or all together, would be too long"),
+            StatementRefusal::TooLong => write!(
+                f,
+                "a written string, or all together, would be too long"
+            ),
             StatementRefusal::OutOfRange => write!(f, "what is scanned is out of range"),
         }
     }

@@ -90,6 +90,13 @@ pub fn seek<K: Kind, S: Store<Symbol = K::Symbol>>(
     let gathered = gather(listing, store, &statement.row.pattern, area)?;
     let length = contents(store, reference, string);
     let elements = gathered.elements();
-    let judged = judge(listing.kind, &string[0..length], area, elements, mode, allowance);
+    let judged = judge(
+        listing.kind,
+        &string[0..length],
+        area,
+        elements,
+        mode,
+        allowance,
+    );
     found(reference, length, judged)
 }

@@ -35,8 +35,9 @@ fn settle<K: Kind, S: Store<Symbol = K::Symbol>>(
         return Err(StatementRefusal::TooLong);
     }
     let target = statement.row.on_success;
-    goes_to(statement.listing, &after, statement.number, target, area)
-        .ok_or(StatementRefusal::NoName)
+    goes_to(statement.listing, &after, statement.number, target, area).ok_or(
+        StatementRefusal::NoName,
+    )
 }
 
 // Makes the writes of a success, if they may be made and the statement leads somewhere.
@@ -66,6 +67,7 @@ pub(crate) fn fail<K: Kind, S: Store<Symbol = K::Symbol>>(
     ensures { result ≡ next_of (left (S.Store.held store.now) (leads K.Kind.chars statement.entry.listing.rows.now statement.entry.number (S.Store.held store.now) statement.entry.row.now.on_failure)) }
 {
     let target = statement.row.on_failure;
-    goes_to(statement.listing, store, statement.number, target, area)
-        .ok_or(StatementRefusal::NoName)
+    goes_to(statement.listing, store, statement.number, target, area).ok_or(
+        StatementRefusal::NoName,
+    )
 }

@@ -1,4 +1,4 @@
-use Rattle.std.proofs.Common.{◌≡◌, ◌-◌, List, length, take, Some, Err, sym, ap, ◌∙◌, arith, rules}
+use Rattle.std.proofs.Common.{◌≡◌, ◌-◌, length, take, Some, Err, sym, ap, ◌∙◌, arith, rules}
 use Rattle.stores.specs.Names.{Names}
 use Rattle.tables.specs.Tables.{listed}
 use Rattle.changes.specs.Told.{told}
@@ -24,7 +24,7 @@ returns-in_err-count g c =
     let e = c.in_err-count.field-0.0 in
     let refused : c.from_residual.result ≡ Err (unjoined e) = search rules in
     let is = ap (replaces g.K.Kind.chars (listed statement.listing) statement.number statement.row.now names success c.args.reference) (ap joined (sym (after_named success names c.requires.cut)))
-            ∙ replaces_refused g.K.Kind.chars (listed statement.listing) statement.number statement.row.now names success c.args.reference c.requires.reference (length c.args.contents.now) c.requires.contents _ e c.in_err-count.ensures.value in
+    ∙ replaces_refused g.K.Kind.chars (listed statement.listing) statement.number statement.row.now names success c.args.reference c.requires.reference (length c.args.contents.now) c.requires.contents _ e c.in_err-count.ensures.value in
     record { answer = refused ∙ sym (ap next_of is); after = sym (ap (names_of names) is) }
 
 pub returns : goal.returns

@@ -1,4 +1,4 @@
-use Rattle.std.proofs.Common.{length, ap, ◌∙◌, arith}
+use Rattle.std.proofs.Common.{ap, ◌∙◌, arith}
 use Rattle.std.specs.Option.{ok_or}
 use Rattle.statements.specs.declared.refusal.StatementRefusal.TheVariants.{NoName}
 use Rattle.statements.proofs.Settling.{next_left}

@@ -29,14 +29,7 @@ fn gather_items<K: Kind, S: Store<Symbol = K::Symbol>>(
     let mut elements = [Element::Free(Variable::Arbitrary); 8];
     let mut used = 0;
     for (i, item) in items.iter().enumerate() {
-        let element = gather_item(
-            listing,
-            store,
-            &items[0..i],
-            *item,
-            area,
-            used,
-        )?;
+        let element = gather_item(listing, store, &items[0..i], *item, area, used)?;
         elements[i] = element;
         used = end_with(used, element);
     }

@@ -8,8 +8,8 @@ ghost use Rattle.patterns.specs.Meant.{Spells, named_by, meant};
 use crate::strings::{Strings, contents};
 use symbols::kind::Kind;
 use symbols::text::write_text;
-use tables::lookup::find_name;
 use tables::listing::Listing;
+use tables::lookup::find_name;
 use tables::row::Reference;
 
 // What a look-up finds under the characters of symbols; nothing under more characters than a name may have.
@@ -30,7 +30,11 @@ pub fn spelled_by<K: Kind, A, F: FnOnce(&[u8]) -> Option<A>>(
 pub fn named_by<K: Kind>(listing: Listing<K>, symbols: &[K::Symbol]) -> Option<usize>
     ensures { result ≡ named_by K.Kind.chars listing.entry.names.now symbols.now }
 {
-    spelled_by(listing.kind, symbols, |chars| find_name(listing.names, chars))
+    spelled_by(
+        listing.kind,
+        symbols,
+        |chars| find_name(listing.names, chars),
+    )
 }
 
 // The number of the name that a reference means under the strings that can be read; the area takes what `$` reads.

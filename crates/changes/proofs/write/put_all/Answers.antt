@@ -1,4 +1,4 @@
-use Rattle.std.proofs.Common.{◌<◌, ◌≤◌, length, refl, ap, arith}
+use Rattle.std.proofs.Common.{◌<◌, length, refl, ap, arith}
 use Rattle.stores.specs.declared.limits.Limits.{Limits}
 use Rattle.changes.specs.Told.{told}
 use Rattle.changes.proofs.Passes.{passed_more, passed_all}

@@ -1,4 +1,4 @@
-use Rattle.std.proofs.Common.{length, Some, None, sym, ap, ◌∙◌}
+use Rattle.std.proofs.Common.{length, None, sym, ap, ◌∙◌}
 use Rattle.std.specs.Result.{result_unwrap_or}
 use Rattle.changes.specs.Told.{told}
 use Rattle.changes.proofs.Fetches.{length_told}

@@ -1,31 +1,28 @@
 -- A string that is fetched, from the store or after the writes. Assumes nothing.
-use Rattle.std.proofs.Common.{◌≡◌, ℕ, ◌-◌, ◌≤◌, true, false, ◌||◌, eqb, ltb, List, length, drop, None, Err, sym, refl, ap, ◌∙◌, arith}
-use Rattle.std.proofs.lemmas.List.{length-take, length-drop}
-use Rattle.std.proofs.lemmas.Bool.{cond-false, or_from, ne_eqb, le-ltb}
-use Rattle.placings.specs.Pattern.{part}
+use Rattle.std.proofs.Common.{◌≡◌, ℕ, Bool, true, false, cond, ◌||◌, eqb, ltb, List, length, Some, None, Err, sym, refl, ap, ◌∙◌}
+use Rattle.std.specs.Result.{result_unwrap_or}
+use Rattle.std.proofs.lemmas.Bool.{cond-false}
 use Rattle.symbols.specs.Answers.{answered, unless, over}
 use Rattle.stores.specs.declared.limits.Limits.{Limits}
 use Rattle.stores.specs.declared.refusal.StoreRefusal.TheVariants.{OutOfRange}
 use Rattle.stores.specs.Names.{Names, limits, under}
-use Rattle.stores.specs.Calls.{outside, number_refusal, fetch_refusal, fetch_answer, after_fetch}
-use Rattle.stores.specs.Puts.{put_or}
-use Rattle.stores.proofs.Calls.{number_inside, number_outside, fetch_refused}
-use Rattle.changes.specs.declared.source.Source.{Source}
-use Rattle.changes.specs.declared.source.Source.TheVariants.{Kept}
-use Rattle.changes.specs.Success.{Success, Sound, In}
-use Rattle.changes.specs.Sources.{source, value}
+use Rattle.stores.specs.Calls.{outside, number_refusal, fetch_refusal, fetch_answer, after_fetch, length_answer}
+use Rattle.stores.proofs.Calls.{number_outside, fetch_refused}
+use Rattle.patterns.proofs.Fetched.{outside_null}
+use Rattle.changes.specs.Success.{Success, Sound}
+use Rattle.changes.specs.Sources.{new_string}
 use Rattle.changes.specs.Limits.{room_refusal}
 use Rattle.changes.specs.Written.{written}
-use Rattle.changes.proofs.Written.{written_length, source_under}
+use Rattle.changes.proofs.Written.{written_length, string_under}
 
-pub length_part : {X : Type 0} (s : List X) (from to : ℕ) → from ≤ to → to ≤ length s → to - from ≡ length (part s from to)
-length_part s from to h k = omega (arith, length-take (to - from) (drop from s), length-drop from s)
-
--- the number of a name is accepted
-pub in_number : {X : Type 0} (names : Names X) (k : ℕ) → In (length names.strings) k → number_refusal names k ≡ None
-in_number names k inn =
-    let low = inn.low in
-    number_inside names k (length names.strings) refl (sym (or_from (eqb k 0) (ltb (length names.strings) k) (ne_eqb k 0 (λ e. omega arith)) (le-ltb _ _ inn.high)))
+-- the length that a store tells, 0 for a number that no string has
+pub length_told : {X : Type 0} (names : Names X) (k : ℕ) → result_unwrap_or (length_answer names k) 0 ≡ length (under names k)
+unfolding number_refusal
+length_told names k = by_number (outside names k) refl
+  where
+    by_number : (b : Bool) → outside names k ≡ b → result_unwrap_or (answered (cond b (Some OutOfRange) None) (length (under names k))) 0 ≡ length (under names k)
+    by_number true e = sym (ap length (outside_null names k e))
+    by_number false e = refl
 
 -- a number that is one of the names': only the area decides
 module _ {X : Type 0} (names : Names X) (k m : ℕ) (many : m ≡ length names.strings) (ok : false ≡ (eqb k 0 || ltb m k)) (s area : List X) (is : under names k ≡ s) where
@@ -49,15 +46,15 @@ module _ {X : Type 0} (success : Success X) (names : Names X) (sound : Sound nam
       let is = fetch_refused (written success names) k (length area) _ (number_outside (written success names) k l.names many no') in
       (ap (λ o. answered o (length (under (written success names) k))) (sym is), ap (λ o. unless o area (over (under (written success names) k) area)) (sym is))
 
-  pub fetch_source : false ≡ (eqb k 0 || ltb l.names k) → (s : Source) → s ≡ source success k → (string : List X) → put_or (value success s) (under names k) ≡ string
-      → (answered (room_refusal (length area) string) (length string) ≡ fetch_answer (written success names) k area) × (unless (room_refusal (length area) string) area (over string area) ≡ after_fetch (written success names) k area)
-  fetch_source ok s e string is =
-      let f = fetch_copies (written success names) k l.names many ok string area (source_under success names sound k s e ∙ is) in
+  pub fetch_new : false ≡ (eqb k 0 || ltb l.names k) → (s : List X) → Some s ≡ new_string success k
+      → (answered (room_refusal (length area) s) (length s) ≡ fetch_answer (written success names) k area) × (unless (room_refusal (length area) s) area (over s area) ≡ after_fetch (written success names) k area)
+  fetch_new ok s e =
+      let f = fetch_copies (written success names) k l.names many ok s area (string_under success names sound k (Some s) e) in
       (sym f.0, sym f.1)
 
   -- a name that keeps its string is fetched from the store
-  pub fetch_kept : false ≡ (eqb k 0 || ltb l.names k) → Kept ≡ source success k → (fetch_answer names k area ≡ fetch_answer (written success names) k area) × (after_fetch names k area ≡ after_fetch (written success names) k area)
+  pub fetch_kept : false ≡ (eqb k 0 || ltb l.names k) → None ≡ new_string success k → (fetch_answer names k area ≡ fetch_answer (written success names) k area) × (after_fetch names k area ≡ after_fetch (written success names) k area)
   fetch_kept ok e =
       let f = fetch_copies names k l.names (ap (λ (j : Limits). j.names) limit) ok (under names k) area refl in
-      let h = fetch_source ok Kept e (under names k) refl in
-      (f.0 ∙ h.0, f.1 ∙ h.1)
+      let h = fetch_copies (written success names) k l.names many ok (under names k) area (string_under success names sound k None e) in
+      (f.0 ∙ sym h.0, f.1 ∙ sym h.1)

@@ -1,15 +1,15 @@
 -- Strings replaced one after the other, and a pass over the names. Assumes nothing.
-use Rattle.std.proofs.Common.{◌≡◌, ℕ, zero, suc, ◌+◌, ◌-◌, ◌<◌, ◌≤◌, eqb, ltb, List, [], ◌∷◌, map, length, get_or, take, set, Some, None, Option, sym, refl, ap, ◌∙◌, add-zero, add-one, arith}
+use Rattle.std.proofs.Common.{◌≡◌, ℕ, zero, suc, ◌+◌, ◌-◌, ◌<◌, ◌≤◌, eqb, ltb, List, [], ◌∷◌, map, length, get_or, take, set, Some, None, Option, sym, refl, ap, ◌∙◌, subst, add-zero, add-one, arith}
 use Rattle.std.proofs.lemmas.Bool.{or_from, ne_eqb, le-ltb}
+use Rattle.std.proofs.lemmas.List.{take_all}
 use Rattle.stores.specs.Names.{Names, size, with_string}
 use Rattle.stores.specs.Calls.{number_refusal}
 use Rattle.stores.specs.Puts.{put_or}
 use Rattle.stores.proofs.Calls.{number_inside, put_fits}
-use Rattle.changes.specs.declared.source.Source.{Source}
-use Rattle.changes.specs.declared.pass.Pass.{Pass}
+use Rattle.std.specs.Option.{option_map, MatchOption, IsSomeAnd}
 use Rattle.changes.specs.Success.{Success}
-use Rattle.changes.specs.Sources.{source, value}
-use Rattle.changes.specs.Passes.{passed, listed, new_strings, replaced, with_strings, changed, Puts, Short, Passable}
+use Rattle.changes.specs.Sources.{new_string}
+use Rattle.changes.specs.Passes.{listed, new_strings, replaced, with_strings, changed, Puts, Short, Passable, IsPass}
 
 listed_at : {A : Type 0} (f : ℕ → A) (k n i : ℕ) (d : A) → i < n → get_or (listed f k n) i d ≡ f (k + i)
 unfolding listed
@@ -127,28 +127,57 @@ module _ {X : Type 0} where
       let ok : number_refusal now' (i + 1) ≡ None = number_inside now' (i + 1) (length (replaced (take i os) ss)) refl (sym (or_from (eqb (i + 1) 0) (ltb (length (replaced (take i os) ss)) (i + 1)) (ne_eqb (i + 1) 0 (λ q. omega arith)) (le-ltb _ _ (omega arith)))) in
       put_fits now' (i + 1) ok s short (rw new fits)
 
+-- what a closure makes of a new string, where its calls compute a change
+pub mapped : {R X : Type 0} (Gives : R → R → Type 0) (now : R → List X) (change : List X → List X) → ((s r : R) → Gives s r → now r ≡ change (now s)) → (o r : Option R) → MatchOption o (r ≡ None) (λ s. IsSomeAnd r (Gives s)) → option_map now r ≡ option_map change (option_map now o)
+mapped Gives now change law None r h = ap (option_map now) h
+mapped Gives now change law (Some s) None h = absurd h
+mapped Gives now change law (Some s) (Some r) h = ap Some (law s r h)
+
 -- a pass over the names, one name more
-module _ {X : Type 0} (pass : Pass) (success : Success X) (names : Names X) (i : ℕ) (lt : i < length names.strings) (s : Source) (is : s ≡ passed pass (source success (i + 1))) where
+module _ {X : Type 0} (change : List X → List X) (success : Success X) (names : Names X) (i : ℕ) (lt : i < length names.strings) (o : Option (List X)) (is : o ≡ option_map change (new_string success (i + 1))) where
   news : List (Option (List X))
-  news = new_strings pass success (length names.strings)
+  news = new_strings change success (length names.strings)
 
   many : length news ≡ length names.strings
   unfolding news
-  many = length_listed (λ k. value success (passed pass (source success k))) 1 (length names.strings)
+  many = length_listed (λ k. option_map change (new_string success k)) 1 (length names.strings)
 
-  next_is : value success s ≡ get_or news i None
+  next_is : o ≡ get_or news i None
   unfolding news
   next_is =
-      let f = λ (k : ℕ). value success (passed pass (source success k)) in
-      ap (value success) is ∙ ap f (add-one i) ∙ sym (listed_one f (length names.strings) i None lt)
+      let f = λ (k : ℕ). option_map change (new_string success k) in
+      is ∙ ap f (add-one i) ∙ sym (listed_one f (length names.strings) i None lt)
 
-  pub puts_next : Passable names (new_strings pass success (length names.strings)) → Puts (with_strings names (replaced (take i (new_strings pass success (length names.strings))) names.strings)) (i + 1) (value success s)
+  pub puts_next : Passable names (new_strings change success (length names.strings)) → Puts (with_strings names (replaced (take i (new_strings change success (length names.strings))) names.strings)) (i + 1) o
   unfolding news
-  puts_next ok = puts_one names news names.strings i (value success s) next_is (omega (arith, many)) (sym many) (rw next_is (ok.short i lt)) (ok.fits (i + 1))
+  puts_next ok = puts_one names news names.strings i o next_is (omega (arith, many)) (sym many) (rw next_is (ok.short i lt)) (ok.fits (i + 1))
 
-  pub pass_more : changed (with_strings names (replaced (take i (new_strings pass success (length names.strings))) names.strings)) (i + 1) (value success s) ≡ with_strings names (replaced (take (i + 1) (new_strings pass success (length names.strings))) names.strings)
+  pub pass_more : changed (with_strings names (replaced (take i (new_strings change success (length names.strings))) names.strings)) (i + 1) o ≡ with_strings names (replaced (take (i + 1) (new_strings change success (length names.strings))) names.strings)
   unfolding news
   pass_more =
-      changed_at names (replaced (take i news) names.strings) i (value success s)
-      ∙ ap (λ o. with_strings names (set_at o i (replaced (take i news) names.strings))) next_is
+      changed_at names (replaced (take i news) names.strings) i o
+      ∙ ap (λ p. with_strings names (set_at p i (replaced (take i news) names.strings))) next_is
       ∙ ap (with_strings names) (sym (replaced_more news names.strings i (omega (arith, many))))
+
+-- the first i names have what the pass puts, the others what they had
+abbrev pub Passed : {R X : Type 0} → (R → R → Type 0) → (R → List X) → Success X → Names X → ℕ → Names X → Type 0
+Passed {R} {X} Gives now success before i after = (change : List X → List X) → ((s r : R) → Gives s r → now r ≡ change (now s))
+    → Passable before (new_strings change success (length before.strings)) → after ≡ with_strings before (replaced (take i (new_strings change success (length before.strings))) before.strings)
+
+module _ {R X : Type 0} (Gives : R → R → Type 0) (now : R → List X) (success : Success X) (before : Names X) where
+  pub passed_more : (i : ℕ) (middle after : Names X) → i < length before.strings → Passed Gives now success before i middle
+      → (o r : Option R) → MatchOption o (r ≡ None) (λ s. IsSomeAnd r (Gives s)) → option_map now o ≡ new_string success (i + 1)
+      → (Puts middle (i + 1) (option_map now r) → after ≡ changed middle (i + 1) (option_map now r)) → Passed Gives now success before (i + 1) after
+  passed_more i middle after lt passed o r made new put change law ok =
+      let is = mapped Gives now change law o r made ∙ ap (option_map change) new in
+      let so_far = passed change law ok in
+      let can = puts_next change success before i lt (option_map now r) is ok in
+      put (subst (λ (n : Names X). Puts n (i + 1) (option_map now r)) (sym so_far) can)
+      ∙ ap (λ n. changed n (i + 1) (option_map now r)) so_far
+      ∙ pass_more change success before i lt (option_map now r) is
+
+  pub passed_all : (i : ℕ) (after : Names X) → length before.strings ≤ i → Passed Gives now success before i after → IsPass Gives now success before after
+  passed_all i after h passed change law ok =
+      let news = new_strings change success (length before.strings) in
+      let all : length news ≤ i = omega (arith, length_listed (λ k. option_map change (new_string success k)) 1 (length before.strings)) in
+      passed change law ok ∙ ap (λ os. with_strings before (replaced os before.strings)) (take_all i news all)

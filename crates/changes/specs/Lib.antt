@@ -1,4 +1,5 @@
 pub mod Success
+pub mod Told
 pub mod Written
 pub mod Sources
 pub mod Limits

@@ -1,34 +1,20 @@
--- The two passes in which names are written, so that no put is refused on the way. Assumes nothing.
+-- The two passes in which names are written, so that no put is refused on the way: first the null string is put for each, then its new one. Assumes nothing.
 use Rattle.std.specs.Prelude.{◌≡◌, ℕ, zero, suc, ◌<◌, ◌≤◌, List, [], ◌∷◌, length, take, Some, None, Option, slice_index_or}
+use Rattle.std.specs.Option.{option_map}
 use Rattle.stores.specs.Names.{Names, size, with_string}
 use Rattle.stores.specs.Calls.{put_refusal}
 use Rattle.stores.specs.Puts.{put_or}
-use Rattle.changes.specs.declared.source.Source.{Source}
-use Rattle.changes.specs.declared.source.Source.TheVariants.{Kept, Part, Contents}
-use Rattle.changes.specs.declared.pass.Pass.{Pass}
-use Rattle.changes.specs.declared.pass.Pass.TheVariants.{Clear, Fill}
 use Rattle.changes.specs.Success.{Success}
-use Rattle.changes.specs.Sources.{source, value}
-
--- a source in place of which the null string is put
-abbrev pub cleared : Source → Source
-cleared Kept = Kept
-cleared (Part a b) = Part 0 0
-cleared Contents = Part 0 0
-
--- what a pass puts for a source
-abbrev pub passed : Pass → Source → Source
-passed Clear s = cleared s
-passed Fill s = s
+use Rattle.changes.specs.Sources.{new_string}
 
 -- f at each of n numbers from k on
 unfoldable pub listed : {A : Type 0} → (ℕ → A) → ℕ → ℕ → List A
 listed f k zero = []
 listed f k (suc n) = f k ∷ listed f (suc k) n
 
--- what a pass puts for each of n names, if anything
-abbrev pub new_strings : {X : Type 0} → Pass → Success X → ℕ → List (Option (List X))
-new_strings pass success n = listed (λ k. value success (passed pass (source success k))) 1 n
+-- what a pass that puts `change s` for a new string s puts for each of n names, if anything
+abbrev pub new_strings : {X : Type 0} → (List X → List X) → Success X → ℕ → List (Option (List X))
+new_strings change success n = listed (λ k. option_map change (new_string success k)) 1 n
 
 -- the strings, each replaced where there is a new one for it
 abbrev pub replaced : {X : Type 0} → List (Option (List X)) → List (List X) → List (List X)
@@ -41,8 +27,8 @@ abbrev pub with_strings : {X : Type 0} → Names X → List (List X) → Names X
 with_strings names ss = record { strings = ss; longest = names.longest; most = names.most }
 
 -- the names after a pass
-abbrev pub after_pass : {X : Type 0} → Pass → Success X → Names X → Names X
-after_pass pass success names = with_strings names (replaced (new_strings pass success (length names.strings)) names.strings)
+abbrev pub after_pass : {X : Type 0} → (List X → List X) → Success X → Names X → Names X
+after_pass change success names = with_strings names (replaced (new_strings change success (length names.strings)) names.strings)
 
 -- the names once one of them has a new string, if there is one
 abbrev pub changed : {X : Type 0} → Names X → ℕ → Option (List X) → Names X
@@ -63,3 +49,8 @@ Short l (Some s) = length s ≤ l
 pub record Passable {X : Type 0} (names : Names X) (news : List (Option (List X))) : Type 0 where
   pub short : (i : ℕ) → i < length names.strings → Short names.longest (slice_index_or news i None)
   pub fits : (i : ℕ) → size (replaced (take i news) names.strings) ≤ names.most
+
+-- what a pass leaves: where the calls of a closure compute a change, and all that it puts can be put, the names after that pass
+abbrev pub IsPass : {R X : Type 0} → (R → R → Type 0) → (R → List X) → Success X → Names X → Names X → Type 0
+IsPass {R} {X} Gives now success before after = (change : List X → List X) → ((s r : R) → Gives s r → now r ≡ change (now s))
+    → Passable before (new_strings change success (length before.strings)) → after ≡ after_pass change success before

@@ -1,51 +1,23 @@
-// The names as they would be after the writes of a success, before anything is written.
+// The names of a store as a success would leave them, before anything is written.
 ghost use Rattle.std.specs.Prelude.{◌≡◌, ◌≤◌, length};
 ghost use Rattle.stores.specs.Names.{under};
-ghost use Rattle.stores.specs.Calls.{fetch_answer, after_fetch};
 ghost use Rattle.symbols.specs.Answers.{answered, unless, over};
-ghost use Rattle.changes.specs.Success.{told, Sound, In};
+ghost use Rattle.changes.specs.Success.{Sound, Sound-prop};
+ghost use Rattle.changes.specs.Told.{told};
 ghost use Rattle.changes.specs.Limits.{over_limits, room_refusal};
 ghost use Rattle.changes.specs.Written.{written};
 
-use crate::source::{Source, last_source};
 use crate::success::Success;
+use patterns::strings::Strings;
 use stores::refusal::StoreRefusal;
 use stores::store::{Store, is_outside};
 
-// The length of a name's string after the writes.
-fn length_after<S: Store>(store: &S, success: Success<S::Symbol>, name: usize) -> usize
-    requires sound { Sound (S.Store.held store.now) (told success) }
-    requires name { In (length (S.Store.held store.now).strings) name }
-    ensures { result ≡ length (under (written (told success.entry) (S.Store.held store.now)) name) }
-{
-    match last_source(success, name) {
-        Source::Kept => match store.length(name) {
-            Ok(n) => n,
-            Err(_) => 0,
-        },
-        Source::Part(from, to) => to - from,
-        Source::Contents => success.contents.len(),
-    }
-}
-
-// Whether the writes would go over a limit: with a string that is too long, or with all together.
-pub fn is_over<S: Store>(store: &S, success: Success<S::Symbol>) -> bool
-    requires { Sound (S.Store.held store.now) (told success) }
-    ensures { result ≡ over_limits (written (told success.entry) (S.Store.held store.now)) }
-{
-    let limits = store.tell();
-    let mut sum = 0;
-    for i in 0..limits.names {
-        let n = length_after(store, success, i + 1);
-        if n > limits.longest {
-            return true;
-        }
-        if n > limits.most - sum {
-            return true;
-        }
-        sum += n;
-    }
-    false
+// A store, and a success of a checked statement over its names.
+#[derive(Drop)]
+pub struct After<'a, S: Store> {
+    pub store: &'a S,
+    pub success: Success<'a, S::Symbol>,
+    pub ghost sound: { Sound (S.Store.held store.now) (told success) } by { Sound-prop (S.Store.held store.now) (told success) },
 }
 
 // Copies a string to the front of an area.
@@ -70,24 +42,51 @@ fn copy_front<T: Copy>(area: &mut [T], string: &[T]) -> Result<usize, StoreRefus
     Ok(copy_over(area, string))
 }
 
-// Copies the string that a name would have after the writes to the front of an area, and tells its length.
-pub fn fetch_after<S: Store>(
-    store: &S,
-    success: Success<S::Symbol>,
-    name: usize,
-    area: &mut [S::Symbol],
-) -> Result<usize, StoreRefusal>
-    requires { Sound (S.Store.held store.now) (told success) }
-    ensures answer { result ≡ fetch_answer (written (told success.entry) (S.Store.held store.now)) name area.old }
-    ensures area { area.new ≡ after_fetch (written (told success.entry) (S.Store.held store.now)) name area.old }
-{
-    let limits = store.tell();
-    if is_outside(name, limits.names) {
-        return Err(StoreRefusal::OutOfRange);
+impl<'a, S: Store> After<'a, S> {
+    // The length of a name's string.
+    fn length_of(&self, name: usize) -> usize
+        ensures { result ≡ length (under (written (told self.now.success) (S.Store.held self.now.store.now)) name) }
+    {
+        match self.success.new_string(name) {
+            Some(string) => string.len(),
+            None => self.store.length(name).unwrap_or(0),
+        }
     }
-    match last_source(success, name) {
-        Source::Kept => store.fetch(name, area),
-        Source::Part(from, to) => copy_front(area, &success.subject[from..to]),
-        Source::Contents => copy_front(area, success.contents),
+
+    // Whether the writes would go over a limit: with a string that is too long, or with all together.
+    pub fn is_over(&self) -> bool
+        ensures { result ≡ over_limits (written (told self.now.success) (S.Store.held self.now.store.now)) }
+    {
+        let limits = self.store.tell();
+        let mut sum = 0;
+        // Names count from 1: over `1..=names` the end of the loop would have two proofs, and not be plainer.
+        for i in 0..limits.names {
+            let n = self.length_of(i + 1);
+            if n > limits.longest {
+                return true;
+            }
+            if n > limits.most - sum {
+                return true;
+            }
+            sum += n;
+        }
+        false
+    }
+}
+
+impl<'a, S: Store> Strings for After<'a, S> {
+    type Symbol = S::Symbol;
+
+    ghost names = { λ after. written (told after.success) (S.Store.held after.store.now) };
+
+    fn read(&self, name: usize, area: &mut [S::Symbol]) -> Result<usize, StoreRefusal> {
+        let limits = self.store.tell();
+        if is_outside(name, limits.names) {
+            return Err(StoreRefusal::OutOfRange);
+        }
+        match self.success.new_string(name) {
+            Some(string) => copy_front(area, string),
+            None => self.store.fetch(name, area),
+        }
     }
 }

@@ -2,7 +2,6 @@
 #![tactic(auto)]
 
 pub mod after;
-pub mod pass;
 pub mod source;
 pub mod success;
 pub mod write;

@@ -1,66 +1,39 @@
 // The writes of a successful statement.
-ghost use Rattle.std.specs.Prelude.{◌≡◌, false, length};
-ghost use Rattle.changes.specs.Success.{told, Sound, Placed};
-ghost use Rattle.changes.specs.Sources.{source, value, OneSource, Cuts};
-ghost use Rattle.changes.specs.Passes.{cleared, passed, new_strings, after_pass, changed, Puts, Passable};
+ghost use Rattle.std.specs.Prelude.{◌≡◌, false};
+ghost use Rattle.std.specs.Option.{option_copied};
+ghost use Rattle.changes.specs.Success.{Sound};
+ghost use Rattle.changes.specs.Told.{told};
+ghost use Rattle.changes.specs.Sources.{OneSource};
+ghost use Rattle.changes.specs.Passes.{changed, Puts, IsPass};
 ghost use Rattle.changes.specs.Limits.{over_limits};
 ghost use Rattle.changes.specs.Written.{written};
 
-use crate::pass::Pass;
-use crate::source::{Source, last_source};
 use crate::success::Success;
 use stores::store::Store;
 
-// The null string in place of a new one.
-fn clear(source: Source) -> Source
-    ensures { result ≡ cleared source }
+// Puts a name's new string, if there is one that can be put.
+fn put_one<S: Store>(store: &mut S, name: usize, string: Option<&[S::Symbol]>)
+    ensures { Puts (S.Store.held store.old) name (option_copied string.entry) → S.Store.held store.new ≡ changed (S.Store.held store.old) name (option_copied string.entry) }
 {
-    match source {
-        Source::Kept => Source::Kept,
-        _ => Source::Part(0, 0),
+    if let Some(new) = string {
+        let _ = store.put(name, new);
     }
 }
 
-// What a pass puts for a name.
-fn source_in<T: Copy>(pass: Pass, success: Success<T>, name: usize) -> Source
-    requires { Placed (told success) }
-    ensures value { result ≡ passed pass (source (told success.entry) name) }
-    ensures cuts { Cuts (length success.entry.subject.now) result }
-{
-    let last = last_source(success, name);
-    match pass {
-        Pass::Clear => clear(last),
-        Pass::Fill => last,
-    }
-}
-
-// Puts one name's new string; it is never refused.
-fn put_one<S: Store>(store: &mut S, success: Success<S::Symbol>, name: usize, source: Source)
-    requires cuts { Cuts (length success.subject.now) source }
-    requires fits { Puts (S.Store.held store.old) name (value (told success) source) }
-    ensures { S.Store.held store.new ≡ changed (S.Store.held store.old) name (value (told success.entry) source) }
-{
-    match source {
-        Source::Kept => {}
-        Source::Part(from, to) => {
-            let _ = store.put(name, &success.subject[from..to]);
-        }
-        Source::Contents => {
-            let _ = store.put(name, success.contents);
-        }
-    }
-}
-
-// One pass over the names.
-fn put_all<S: Store>(store: &mut S, pass: Pass, success: Success<S::Symbol>)
-    requires placed { Placed (told success) }
-    requires fits { Passable (S.Store.held store.old) (new_strings pass (told success) (length (S.Store.held store.old).strings)) }
-    ensures { S.Store.held store.new ≡ after_pass pass (told success.entry) (S.Store.held store.old) }
+// One pass over the names: where a name gets a string, what the closure makes of it is put.
+fn put_all<'a, S: Store, F: Fn(&'a [S::Symbol]) -> &'a [S::Symbol]>(
+    store: &mut S,
+    success: Success<'a, S::Symbol>,
+    change: F,
+)
+    requires { F.IsAlwaysCallable change }
+    ensures { IsPass (F.post change) (λ s. s.now) (told success.entry) (S.Store.held store.old) (S.Store.held store.new) }
 {
     let limits = store.tell();
+    // Names count from 1, as in `is_over`.
     for i in 0..limits.names {
-        let source = source_in(pass, success, i + 1);
-        put_one(store, success, i + 1, source);
+        let name = i + 1;
+        put_one(store, name, success.new_string(name).map(&change));
     }
 }
 
@@ -71,6 +44,6 @@ pub fn write_all<S: Store>(store: &mut S, success: Success<S::Symbol>)
     ensures after { S.Store.held store.new ≡ written (told success.entry) (S.Store.held store.old) }
     ensures source { OneSource (told success.entry) (S.Store.held store.old) (S.Store.held store.new) }
 {
-    put_all(store, Pass::Clear, success);
-    put_all(store, Pass::Fill, success);
+    put_all(store, success, |_| &[]);
+    put_all(store, success, |string| string);
 }

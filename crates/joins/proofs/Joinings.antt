@@ -1,11 +1,12 @@
 -- A string joined piece by piece. Assumes nothing.
-use Rattle.std.proofs.Common.{◌≡◌, ℕ, ◌+◌, ◌-◌, ◌<◌, ◌≤◌, Bool, true, false, cond, ltb, List, [], ◌∷◌, ◌++◌, length, get_or, take, drop, Some, None, Option, sym, refl, ap, ◌∙◌, arith}
+use Rattle.std.proofs.Common.{◌≡◌, ℕ, ◌+◌, ◌-◌, ◌<◌, ◌≤◌, Bool, true, false, cond, ltb, List, [], ◌∷◌, ◌++◌, length, get_or, take, drop, Some, None, Ok, Err, Option, sym, refl, ap, ◌∙◌, arith}
 use borrow.Rule.Slice.PartMut.{put_mid, post_of}
 use Rattle.std.proofs.lemmas.List.{append-nil, append_assoc, length-append, length-take-le, take_more, take-append-drop}
 use Rattle.std.proofs.lemmas.Bool.{cond-true, cond-false, lt-ltb, le-ltb, ltb-true}
 use Rattle.stores.specs.Names.{Names}
 use Rattle.tables.specs.declared.row.Operand.{Operand}
 use Rattle.tables.specs.declared.sheet.NameTable.{NameTable}
+use Rattle.joins.specs.declared.refusal.JoinRefusal.{JoinRefusal}
 use Rattle.joins.specs.Joined.{both, operand_contents, operands_joined}
 use Rattle.joins.specs.Renewed.{clipped}
 use Rattle.joins.specs.Pieces.{filled, Filled, appended, joined_to}
@@ -39,16 +40,16 @@ module _ {X : Type 0} where
   length_mid a k xs ys h = omega (arith, length-append (take a xs) (ys ++ post_of a k xs), length-append ys (post_of a k xs), length-take-le a xs h)
 
   -- an operand behind those before it
-  pub joined_more : (l : ℕ) (t f j w : Option (List X)) → Some f ≡ joined_to l t j → joined_to l f w ≡ joined_to l t (both j w)
+  pub joined_more : (l : ℕ) (t f j w : Option (List X)) → Ok f ≡ joined_to l t j → joined_to l f w ≡ joined_to l t (both j w)
   joined_more l t f None w e = let z : ◌≡◌ {A = ℕ} 0 1 = cc in absurd (omega arith)
   joined_more l t f (Some s) None e = refl
   joined_more l t f (Some s) (Some w) e =
       let q : f ≡ appended l t s = cc in
-      ap (λ x. Some (appended l x w)) q ∙ ap Some (appended_twice l t s w)
+      ap (λ x. Ok (appended l x w)) q ∙ ap Ok (appended_twice l t s w)
 
-  none_from : (l : ℕ) (t j w : Option (List X)) → None ≡ joined_to l t j → None ≡ joined_to l t (both j w)
-  none_from l t None w e = refl
-  none_from l t (Some s) w e = let z : ◌≡◌ {A = ℕ} 0 1 = cc in absurd (omega arith)
+  none_from : (l : ℕ) (t j w : Option (List X)) (e : JoinRefusal) → Err e ≡ joined_to l t j → Err e ≡ joined_to l t (both j w)
+  none_from l t None w e is = is
+  none_from l t (Some s) w e is = let z : ◌≡◌ {A = ℕ} 0 1 = cc in absurd (omega arith)
 
   both_assoc : (a b c : Option (List X)) → both (both a b) c ≡ both a (both b c)
   both_assoc None b c = refl
@@ -80,7 +81,7 @@ module _ {X : Type 0} (chars : X → List ℕ) (table : NameTable) (constants : 
       ∙ ap (both (operands_joined chars table constants names (take i os))) (both_end (operand_contents chars table constants names (get_or os i d)))
 
   -- the string so far, f, with operand i behind it is the front with one operand more
-  pub joins_more : (l m : ℕ) (t f : Option (List X)) (os : List Operand) (i : ℕ) (d : Operand) → m ≡ l → i < length os → Some f ≡ joined_to l t (operands_joined chars table constants names (take i os))
+  pub joins_more : (l m : ℕ) (t f : Option (List X)) (os : List Operand) (i : ℕ) (d : Operand) → m ≡ l → i < length os → Ok f ≡ joined_to l t (operands_joined chars table constants names (take i os))
       → joined_to m f (operand_contents chars table constants names (get_or os i d)) ≡ joined_to l t (operands_joined chars table constants names (take (i + 1) os))
   joins_more l m t f os i d same h e =
       ap (λ n. joined_to n f (operand_contents chars table constants names (get_or os i d))) same
@@ -88,7 +89,7 @@ module _ {X : Type 0} (chars : X → List ℕ) (table : NameTable) (constants : 
       ∙ ap (joined_to l t) (sym (one_more os i d h))
 
   -- where a front stands for nothing, the whole does
-  pub joins_none : (l : ℕ) (t : Option (List X)) (os : List Operand) (i : ℕ) → None ≡ joined_to l t (operands_joined chars table constants names (take i os)) → None ≡ joined_to l t (operands_joined chars table constants names os)
-  joins_none l t os i e =
-      none_from l t _ (operands_joined chars table constants names (drop i os)) e
+  pub joins_none : (l : ℕ) (t : Option (List X)) (os : List Operand) (i : ℕ) (e : JoinRefusal) → Err e ≡ joined_to l t (operands_joined chars table constants names (take i os)) → Err e ≡ joined_to l t (operands_joined chars table constants names os)
+  joins_none l t os i e is =
+      none_from l t _ (operands_joined chars table constants names (drop i os)) e is
       ∙ ap (joined_to l t) (sym (joined_append (take i os) (drop i os)) ∙ ap (operands_joined chars table constants names) (take-append-drop i os))

@@ -8,11 +8,9 @@ use Rattle.stores.specs.Puts.{put_or}
 use Rattle.stores.proofs.Puts.{under_with}
 use Rattle.tables.specs.declared.row.Item.{Item}
 use Rattle.tables.specs.declared.row.Item.TheVariants.{Operand, Variable}
-use Rattle.changes.specs.Success.{Success, Numbered}
+use Rattle.changes.specs.Success.{Success, Numbered, Sound}
 use Rattle.changes.specs.Written.{takes, named, renewed, written}
 use Rattle.changes.proofs.Written.{named_length}
-use Rattle.joins.specs.Renewed.{Ready}
-use Rattle.joins.specs.Pieces.{names_after}
 
 module _ {X : Type 0} where
   takes_short : (i : Item) (s : List X) (names : Names X) (room j : ℕ) → Numbered (length names.strings) i → length s ≤ room → length (under names j) ≤ room → length (under (takes i s names) j) ≤ room
@@ -36,11 +34,12 @@ module _ {X : Type 0} where
 
 module _ {X : Type 0} (success : Success X) (names : Names X) where
   -- where the string reference is left as it is, the names after the success are those after the naming
-  pub after_named : success.reference ≡ None → written success names ≡ names_after success names
-  after_named e = ap (λ r. renewed r success.contents (names_after success names)) e
+  pub after_named : success.reference ≡ None → written success names ≡ named success.subject success.start success.items success.ends names
+  after_named e = ap (λ r. renewed r success.contents (named success.subject success.start success.items success.ends names)) e
 
   -- every string then has room
-  pub after_short : (room k : ℕ) → Ready names success room → Bounded names → length (under (names_after success names) k) ≤ room
-  after_short room k ready bounded =
-      named_short success.subject success.start success.items success.ends names (length names.strings) room k refl ready.sound.variables ready.subject
-      (λ j. let each = bounded.each j in omega (arith, ready.longest))
+  pub after_short : (room : ℕ) → Sound names success → success.reference ≡ None → names.longest ≤ room → length success.subject ≤ room → Bounded names → (k : ℕ) → length (under (written success names) k) ≤ room
+  after_short room sound unwritten longest short bounded k =
+      rw (after_named unwritten)
+      (named_short success.subject success.start success.items success.ends names (length names.strings) room k refl sound.variables short
+      (λ j. let each = bounded.each j in omega (arith, longest)))

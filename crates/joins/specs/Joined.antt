@@ -1,17 +1,12 @@
 -- What the operands of a right side stand for, joined. Assumes nothing.
-use Rattle.std.specs.Prelude.{ℕ, List, [], ◌∷◌, ◌++◌, take, Some, None, Option}
+use Rattle.std.specs.Prelude.{ℕ, List, [], ◌∷◌, ◌++◌, Some, None, Option}
 use Rattle.std.specs.Option.{option_map}
 use Rattle.placings.specs.Pattern.{part}
 use Rattle.stores.specs.Names.{Names, under}
 use Rattle.tables.specs.declared.row.Operand.{Operand}
 use Rattle.tables.specs.declared.row.Operand.TheVariants.{Literal, Contents}
-use Rattle.tables.specs.declared.row.RightSide.{RightSide}
 use Rattle.tables.specs.declared.sheet.NameTable.{NameTable}
 use Rattle.patterns.specs.Meant.{meant}
-
--- the operands of a right side
-abbrev pub operands_in : RightSide → List Operand
-operands_in side = take side.count side.operands
 
 -- a string with another behind it, where both are there
 abbrev pub both : {X : Type 0} → Option (List X) → Option (List X) → Option (List X)

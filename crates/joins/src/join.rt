@@ -1,76 +1,60 @@
-// The operands of a right side, joined under the names once the variables took their parts.
-ghost use Rattle.std.specs.Prelude.{◌≡◌, length};
-ghost use Rattle.changes.specs.Success.{told};
+// The operands of a right side, joined.
+ghost use Rattle.std.specs.Prelude.{◌≡◌, ℕ, ◌≤◌, length};
+ghost use Rattle.stores.specs.Names.{under};
 ghost use Rattle.joins.specs.Joined.{operand_contents, operands_joined};
-ghost use Rattle.joins.specs.Renewed.{Ready};
-ghost use Rattle.joins.specs.Pieces.{names_after, filled, Filled, joined_to, filled_in, FilledIn};
+ghost use Rattle.joins.specs.Pieces.{filled, joined_to, filled_in};
 
-use crate::after::{contents_after, meant_after};
-use crate::append::{append, append_literal};
-use changes::success::Success;
-use stores::store::Store;
+use crate::joined::Joined;
+use crate::refusal::JoinRefusal;
+use patterns::reference::meant_by;
+use patterns::strings::{Strings, contents};
 use symbols::kind::Kind;
+use tables::listing::Listing;
 use tables::row::Operand;
-use tables::sheet::NameTable;
 
-// An operand behind the string at the front of an area; none where `$` yields no name.
-// What no longer fits is remembered, as a later operand may still be refused.
-fn join_one<K: Kind, S: Store<Symbol = K::Symbol>>(
-    kind: &K,
-    table: &NameTable,
-    store: &S,
-    constants: &[K::Symbol],
-    success: Success<K::Symbol>,
+// An operand behind the string that is there; refused where `$` yields no name.
+fn join_one<K: Kind, R: Strings<Symbol = K::Symbol>>(
+    listing: Listing<K>,
+    strings: &R,
     operand: Operand,
-    area: &mut [K::Symbol],
+    joined: &mut Joined<K::Symbol>,
     scratch: &mut [K::Symbol],
-    at: Option<usize>,
-) -> Option<Option<usize>>
-    requires ready { Ready (S.Store.held store.now) (told success) (length scratch.old) }
-    requires at { Filled at area.old }
-    ensures value { filled_in result area.new ≡ joined_to (length area.old) (filled at area.old) (operand_contents K.Kind.chars table.now constants.now (names_after (told success.entry) (S.Store.held store.now)) operand) }
-    ensures within { FilledIn result area.new }
+) -> Result<(), JoinRefusal>
+    requires { (k : ℕ) → length (under (R.Strings.names strings.now) k) ≤ length scratch.old }
+    ensures value { filled_in result (filled joined.new.at joined.new.area.now) ≡ joined_to (length joined.old.area.now) (filled joined.old.at joined.old.area.now) (operand_contents K.Kind.chars listing.entry.names.now listing.entry.constants.now (R.Strings.names strings.now) operand) }
+    ensures room { length joined.new.area.now ≡ length joined.old.area.now }
+    ensures same { joined.new.area.ghost_name ≡ joined.old.area.ghost_name }
 {
     match operand {
-        Operand::Literal(from, to) => Some(append_literal(area, at, constants, from, to)),
+        Operand::Literal(from, to) => {
+            joined.append_literal(listing.constants, from, to);
+            Ok(())
+        }
         Operand::Contents(reference) => {
-            let number = meant_after(kind, table, store, success, reference, scratch)?;
-            let length = contents_after(store, success, number, scratch);
-            Some(append(area, at, &scratch[0..length]))
+            let number =
+                meant_by(listing, strings, reference, scratch).ok_or(JoinRefusal::NoName)?;
+            let length = contents(strings, number, scratch);
+            joined.append(&scratch[0..length]);
+            Ok(())
         }
     }
 }
 
-// All operands, left to right, behind the string at the front of an area.
-pub fn join<K: Kind, S: Store<Symbol = K::Symbol>>(
-    kind: &K,
-    table: &NameTable,
-    store: &S,
-    constants: &[K::Symbol],
-    success: Success<K::Symbol>,
+// All operands, left to right, behind the string that is there.
+pub fn join<K: Kind, R: Strings<Symbol = K::Symbol>>(
+    listing: Listing<K>,
+    strings: &R,
     operands: &[Operand],
-    area: &mut [K::Symbol],
+    joined: &mut Joined<K::Symbol>,
     scratch: &mut [K::Symbol],
-    from: Option<usize>,
-) -> Option<Option<usize>>
-    requires ready { Ready (S.Store.held store.now) (told success) (length scratch.old) }
-    requires from { Filled from area.old }
-    ensures value { filled_in result area.new ≡ joined_to (length area.old) (filled from area.old) (operands_joined K.Kind.chars table.now constants.now (names_after (told success.entry) (S.Store.held store.now)) operands.now) }
-    ensures within { FilledIn result area.new }
+) -> Result<(), JoinRefusal>
+    requires { (k : ℕ) → length (under (R.Strings.names strings.now) k) ≤ length scratch.old }
+    ensures value { filled_in result (filled joined.new.at joined.new.area.now) ≡ joined_to (length joined.old.area.now) (filled joined.old.at joined.old.area.now) (operands_joined K.Kind.chars listing.entry.names.now listing.entry.constants.now (R.Strings.names strings.now) operands.now) }
+    ensures room { length joined.new.area.now ≡ length joined.old.area.now }
+    ensures same { joined.new.area.ghost_name ≡ joined.old.area.ghost_name }
 {
-    let mut at = from;
-    for i in 0..operands.len() {
-        at = join_one(
-            kind,
-            table,
-            store,
-            constants,
-            success,
-            operands[i],
-            area,
-            scratch,
-            at,
-        )?;
+    for operand in operands {
+        join_one(listing, strings, *operand, joined, scratch)?;
     }
-    Some(at)
+    Ok(())
 }

@@ -1,22 +1,27 @@
 -- The nearest variable of a name, one item after the other. Assumes nothing.
-use Rattle.std.proofs.Common.{◌≡◌, ℕ, suc, ◌+◌, ◌<◌, Bool, true, false, cond, List, [], ◌∷◌, ◌++◌, length, get_or, take, Some, None, Option, refl, ap, ◌∙◌, arith}
-use Rattle.std.proofs.lemmas.List.{take_more, length-take-le}
+use Rattle.std.proofs.Common.{◌≡◌, ℕ, zero, suc, ◌<◌, Bool, true, false, List, [], ◌∷◌, length, get_or, Some, None, Option, sym, refl, ap, arith}
 use Rattle.tables.specs.declared.row.Item.{Item}
-use Rattle.patterns.specs.Nearest.{is_variable, further, nearest}
+use Rattle.tables.specs.Rows.{is_variable}
+use Rattle.patterns.specs.Nearest.{further, nearest}
 
-nearest_push : (k : ℕ) (items : List Item) (item : Item) → nearest k (items ++ item ∷ []) ≡ cond (is_variable k item) (Some (length items)) (nearest k items)
+-- none of the items is a variable of the name
+pub nearest_none : (k : ℕ) (items : List Item) → ((j : ℕ) (d : Item) → j < length items → is_variable k (get_or items j d) ≡ false) → None ≡ nearest k items
 unfolding nearest
-nearest_push k [] item = refl
-nearest_push k (x ∷ xs) item = ap (further (is_variable k x)) (nearest_push k xs item) ∙ out (is_variable k item)
-  where
-    out : (b : Bool) → further (is_variable k x) (cond b (Some (length xs)) (nearest k xs)) ≡ cond b (Some (suc (length xs))) (further (is_variable k x) (nearest k xs))
-    out true = refl
-    out false = refl
+nearest_none k [] none = refl
+nearest_none k (x ∷ xs) none =
+    let rest : None ≡ nearest k xs = nearest_none k xs (λ j d h. none (suc j) d (omega arith)) in
+    let here : is_variable k x ≡ false = none 0 x (omega arith) in
+    rw (sym rest, here) refl
 
-pub nearest_more : (k i : ℕ) (items : List Item) (d : Item) → i < length items → nearest k (take (i + 1) items) ≡ cond (is_variable k (get_or items i d)) (Some i) (nearest k (take i items))
-nearest_more k i items d h =
-    ap (nearest k) (take_more items i d h) ∙ nearest_push k (take i items) (get_or items i d)
-    ∙ ap (λ n. cond (is_variable k (get_or items i d)) (Some n) (nearest k (take i items))) (length-take-le i items (omega arith))
+-- the item at place i is one, and none behind it is
+pub nearest_at : (k i : ℕ) (items : List Item) → i < length items → ((d : Item) → is_variable k (get_or items i d) ≡ true) → ((j : ℕ) (d : Item) → i < j → j < length items → is_variable k (get_or items j d) ≡ false) → Some i ≡ nearest k items
+unfolding nearest
+nearest_at k i [] h is none = absurd (omega arith)
+nearest_at k zero (x ∷ xs) h is none =
+    let rest : None ≡ nearest k xs = nearest_none k xs (λ j d q. none (suc j) d (omega arith) (omega arith)) in
+    rw (sym rest, is x) refl
+nearest_at k (suc i) (x ∷ xs) h is none =
+    ap (further (is_variable k x)) (nearest_at k i xs (omega arith) is (λ j d p q. none (suc j) d (omega arith) (omega arith)))
 
 -- a variable that was found stands among the items
 pub nearest_lies : (k j : ℕ) (items : List Item) → nearest k items ≡ Some j → j < length items

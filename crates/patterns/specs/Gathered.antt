@@ -7,8 +7,6 @@ use Rattle.placings.specs.Pattern as placings
 use Rattle.scan.specs.declared.element.Element.{Element}
 use Rattle.scan.specs.Answers.{returned, scan_answer}
 use Rattle.scan.specs.Elements.{pattern}
-use Rattle.tables.specs.declared.row.Item.{Item}
-use Rattle.tables.specs.declared.row.Pattern.{Pattern}
 use Rattle.patterns.specs.declared.gathered.Gathered.{Gathered}
 use Rattle.patterns.specs.declared.gathered.PatternRefusal.{PatternRefusal}
 use Rattle.patterns.specs.declared.gathered.PatternRefusal.TheVariants.{ShortArea, NoName}
@@ -18,10 +16,6 @@ use Rattle.patterns.specs.Fitted.{fitted, Alike}
 abbrev pub pattern_number : PatternRefusal → ℕ
 pattern_number ShortArea = 23
 pattern_number NoName = 24
-
--- the items of a pattern
-abbrev pub items_in : Pattern → List Item
-items_in p = take p.count p.items
 
 -- the elements that were gathered
 abbrev pub elements_in : Gathered → List Element

@@ -1,5 +1,6 @@
 -- Which name of a sheet a reference means. Assumes nothing.
-use Rattle.std.specs.Prelude.{ℕ, cond, List, length, Some, None, Option, nat_lt}
+use Rattle.std.specs.Prelude.{◌≡◌, ℕ, cond, List, length, Some, None, Option, nat_lt}
+use Rattle.std.specs.Bool.{MatchBool}
 use Rattle.std.specs.List.{flat_map}
 use Rattle.stores.specs.Names.{Names, under}
 use Rattle.tables.specs.declared.row.Reference.{Reference}
@@ -7,6 +8,10 @@ use Rattle.tables.specs.declared.row.Reference.TheVariants.{Named, Through}
 use Rattle.tables.specs.declared.sheet.NameTable.{NameTable}
 use Rattle.tables.specs.Limits.{longest_name}
 use Rattle.tables.specs.Lookups.{name_number}
+
+-- what a look-up may give at a text; more characters than a name may have are not looked up
+abbrev pub Spells : {A : Type 0} → (List ℕ → Option A → Type 0) → List ℕ → Option A → Type 0
+Spells Gives text result = MatchBool (nat_lt longest_name (length text)) (result ≡ None) (Gives text result)
 
 module _ {X : Type 0} (chars : X → List ℕ) (table : NameTable) where
   -- the number of the name that the characters of contents spell, if the sheet has it; more characters than a name may have spell none

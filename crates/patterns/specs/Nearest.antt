@@ -1,12 +1,7 @@
 -- The variable that a back reference means: the nearest of its name. Assumes nothing.
-use Rattle.std.specs.Prelude.{ℕ, suc, Bool, false, cond, List, [], ◌∷◌, Some, None, Option, ◌==◌}
+use Rattle.std.specs.Prelude.{ℕ, suc, Bool, cond, List, [], ◌∷◌, Some, None, Option}
 use Rattle.tables.specs.declared.row.Item.{Item}
-use Rattle.tables.specs.declared.row.Item.TheVariants.{Operand, Variable}
-
--- whether an item is a variable of the name k
-abbrev pub is_variable : ℕ → Item → Bool
-is_variable k (Operand operand) = false
-is_variable k (Variable variable) = variable.name == k
+use Rattle.tables.specs.Rows.{is_variable}
 
 -- one place further on, or the first place where the test holds of the first
 abbrev pub further : Bool → Option ℕ → Option ℕ

@@ -6,4 +6,5 @@ mod element;
 pub mod gather;
 pub mod gathered;
 pub mod reference;
+pub mod strings;
 pub mod variable;

@@ -23,7 +23,7 @@ use Rattle.tables.specs.declared.sheet.NameTable.{NameTable}
 use Rattle.tables.specs.Limits.{longest_name}
 use Rattle.tables.specs.Lookups.{spelled, names_in, name_number, First}
 use Rattle.tables.proofs.Lookups as lookups
-use Rattle.patterns.specs.Gathered.{items_in}
+use Rattle.tables.specs.Rows.{items_in}
 use Rattle.patterns.specs.Meant.{named_by, meant}
 use Rattle.patterns.specs.Resolved.{before_all, item_element, resolved_behind, resolved}
 use Rattle.changes.specs.Success as changes

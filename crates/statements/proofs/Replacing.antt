@@ -1,7 +1,6 @@
 -- New contents that are longer than a string may be go over the limits. Assumes nothing.
-use Rattle.std.proofs.Common.{◌≡◌, ℕ, ◌<◌, Bool, true, false, cond, ltb, List, [], length, Some, None, Err, Option, Result, sym, refl, ap, ◌∙◌, arith}
+use Rattle.std.proofs.Common.{◌≡◌, ℕ, ◌<◌, Bool, true, false, cond, ltb, List, [], length, Some, None, Ok, Err, Option, Result, sym, refl, ap, ◌∙◌, arith}
 use Rattle.std.proofs.lemmas.Bool.{eq-eqb, ltb-true}
-use Rattle.std.specs.Option.{option_map}
 use Rattle.stores.specs.Names.{Names, under}
 use Rattle.stores.specs.Puts.{put_or}
 use Rattle.stores.proofs.Puts.{under_with}
@@ -13,10 +12,12 @@ use Rattle.changes.specs.Limits.{over_limits}
 use Rattle.changes.specs.Success.{Success, In}
 use Rattle.changes.specs.Written.{named, written}
 use Rattle.changes.proofs.Written.{named_length, written_limits}
-use Rattle.patterns.specs.Gathered.{items_in}
-use Rattle.joins.specs.Renewed.{new_contents, clipped}
+use Rattle.tables.specs.Rows.{items_in}
+use Rattle.joins.specs.declared.refusal.JoinRefusal.{JoinRefusal}
+use Rattle.joins.specs.declared.refusal.JoinRefusal.TheVariants.{NoName, TooLong}
+use Rattle.joins.specs.Renewed.{new_contents, renew_answer}
 use Rattle.statements.specs.declared.refusal.StatementRefusal.{StatementRefusal}
-use Rattle.statements.specs.declared.refusal.StatementRefusal.TheVariants.{TooLong}
+use Rattle.statements.specs.Refusals.{unjoined}
 use Rattle.statements.specs.Carried.{cut, with_contents, replaces, leaves, succeeds}
 use Rattle.statements.specs.Settled.{Left}
 use Rattle.statements.proofs.Settling.{within_each}
@@ -48,17 +49,27 @@ module _ {X : Type 0} (success : Success X) (names : Names X) (t : ℕ) (inn : I
           absurd (omega arith)
 
 module _ {X : Type 0} (chars : X → List ℕ) (tables : Tabled X) (k : ℕ) (row : Row) (names : Names X) (success : Success X) (t : ℕ) (inn : In (length names.strings) t) where
-  -- what does not fit an area of the longest string is refused
-  pub replaces_long : (room : ℕ) → room ≡ names.longest → (o : Option (List X)) → Some None ≡ option_map (clipped room) o → replaces chars tables k row names success t o ≡ Err TooLong
-  replaces_long room e None q = let z : ◌≡◌ {A = ℕ} 0 1 = cc in absurd (omega arith)
-  replaces_long room e (Some s) q = go (ltb room (length s)) refl q
+  -- what is refused of the new contents in an area of the longest string is refused of the statement
+  pub replaces_refused : (room : ℕ) → room ≡ names.longest → (o : Option (List X)) (e : JoinRefusal) → Err e ≡ renew_answer room o → replaces chars tables k row names success t o ≡ Err (unjoined e)
+  replaces_refused room h None e q = let z : NoName ≡ e = cc in ap (λ x. Err (unjoined x)) z
+  replaces_refused room h (Some s) e q = go (ltb room (length s)) refl q
     where
-      go : (b : Bool) → ltb room (length s) ≡ b → Some None ≡ Some (cond b None (Some s)) → replaces chars tables k row names success t (Some s) ≡ Err TooLong
+      go : (b : Bool) → ltb room (length s) ≡ b → Err e ≡ cond b (Err TooLong) (Ok s) → replaces chars tables k row names success t (Some s) ≡ Err (unjoined e)
       go true is q' =
-          let h = ltb-true room (length s) is in
+          let long = ltb-true room (length s) is in
           let over = over_renewed success names t inn s (omega arith) in
-          rw over
+          let z : TooLong ≡ e = cc in
+          rw over (ap (λ x. Err (unjoined x)) z)
       go false is q' = let z : ◌≡◌ {A = ℕ} 0 1 = cc in absurd (omega arith)
+
+-- new contents that were written are those that were asked for
+pub renewed_some : {X : Type 0} (room : ℕ) (o : Option (List X)) (s : List X) → Ok s ≡ renew_answer room o → Some s ≡ o
+renewed_some room None s q = let z : ◌≡◌ {A = ℕ} 0 1 = cc in absurd (omega arith)
+renewed_some {X} room (Some w) s q = go (ltb room (length w)) q
+  where
+    go : (b : Bool) → Ok s ≡ cond b (Err TooLong) (Ok w) → Some s ≡ Some w
+    go true q' = let z : ◌≡◌ {A = ℕ} 0 1 = cc in absurd (omega arith)
+    go false q' = let z : s ≡ w = cc in ap Some z
 
 -- a success that was cut from the contents of t, with a right side
 module _ {X : Type 0} (chars : X → List ℕ) (tables : Tabled X) (k : ℕ) (row : Row) (names : Names X) (t start : ℕ) (side : RightSide) where

@@ -8,7 +8,7 @@ use Rattle.tables.specs.declared.row.Next.{Next}
 use Rattle.tables.specs.declared.row.Row.{Row}
 use Rattle.tables.specs.declared.row.RightSide.{RightSide}
 use Rattle.tables.specs.Tables.{Tabled}
-use Rattle.patterns.specs.Gathered.{items_in}
+use Rattle.tables.specs.Rows.{items_in}
 use Rattle.changes.specs.Success as changes
 use Rattle.changes.specs.Written.{written}
 use Rattle.joins.specs.Renewed.{new_contents}

@@ -1,18 +1,12 @@
--- What a listing tells, and which statements of it may be carried out over the names of a store. Assumes nothing.
+-- Which statements may be carried out over the names of a store. Assumes nothing.
 use Rattle.std.specs.Prelude.{◌≤◌, length}
 use Rattle.std.specs.List.{AllByRecursion}
 use Rattle.stores.specs.Names.{Names}
 use Rattle.tables.specs.declared.row.Row.{Row}
 use Rattle.tables.specs.declared.sheet.NameTable.{NameTable}
-use Rattle.tables.specs.Tables.{Tabled}
-use Rattle.patterns.specs.Gathered.{items_in}
+use Rattle.tables.specs.Rows.{items_in}
 use Rattle.changes.specs.Success.{In, Numbered}
 use Rattle.checks.specs.Fits.{number_in}
-use Rattle.statements.specs.declared.listing.Listing.{Listing}
-
--- what a listing tells of its sheet
-abbrev pub listed : {X : Type 0} → Listing X → Tabled X
-listed lent = record { names = lent.names.now; rows = lent.rows.now; constants = lent.constants.now }
 
 -- a statement over names that a store has: its string reference, its variables, and whatever name of the sheet a `$` yields
 pub record Carriable {X : Type 0} (names : Names X) (table : NameTable) (row : Row) : Type 0 where

@@ -1,5 +1,6 @@
 -- Why a statement is not carried out, by the numbers of the refusals. Assumes nothing.
 use Rattle.std.specs.Prelude.{ℕ}
+use Rattle.joins.specs.declared.refusal.JoinRefusal as join
 use Rattle.patterns.specs.declared.gathered.PatternRefusal as pattern
 use Rattle.scan.specs.declared.answer.ScanRefusal as scan
 use Rattle.statements.specs.declared.refusal.StatementRefusal.{StatementRefusal}
@@ -17,6 +18,11 @@ statement_number OutOfRange = 27
 abbrev pub unnamed : pattern.PatternRefusal → StatementRefusal
 unnamed pattern.PatternRefusal.ShortArea = ShortArea
 unnamed pattern.PatternRefusal.NoName = NoName
+
+-- a right side's refusal as the statement's
+abbrev pub unjoined : join.JoinRefusal → StatementRefusal
+unjoined join.JoinRefusal.NoName = NoName
+unjoined join.JoinRefusal.TooLong = TooLong
 
 -- a scan's refusal as the statement's
 abbrev pub unscanned : scan.ScanRefusal → StatementRefusal

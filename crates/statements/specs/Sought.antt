@@ -12,7 +12,7 @@ use Rattle.scan.specs.Answers.{placed, returned, scan_answer}
 use Rattle.stores.specs.Names.{Names, under}
 use Rattle.tables.specs.declared.row.Row.{Row}
 use Rattle.tables.specs.declared.sheet.NameTable.{NameTable}
-use Rattle.patterns.specs.Gathered.{items_in}
+use Rattle.tables.specs.Rows.{items_in}
 use Rattle.patterns.specs.Meant.{meant}
 use Rattle.patterns.specs.Resolved.{resolved}
 use Rattle.statements.specs.declared.refusal.StatementRefusal.{StatementRefusal}

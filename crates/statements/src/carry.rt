@@ -1,26 +1,28 @@
 // Carrying out a statement.
 ghost use Rattle.std.specs.Prelude.{◌≡◌, ◌*◌, ◌≤◌, length, take, None};
 ghost use Rattle.stores.specs.Names.{under};
-ghost use Rattle.patterns.specs.Gathered.{items_in};
-ghost use Rattle.changes.specs.Success.{told, Sound, In};
+ghost use Rattle.tables.specs.Tables.{listed};
+ghost use Rattle.changes.specs.Success.{Sound, In};
+ghost use Rattle.changes.specs.Told.{told};
 ghost use Rattle.joins.specs.Renewed.{new_contents};
 ghost use Rattle.statements.specs.Carried.{cut, replaces, succeeds, follows, left_by, done_with, done_by, Cuts};
-ghost use Rattle.statements.specs.Listed.{listed, Carriable};
+ghost use Rattle.statements.specs.Listed.{Carriable};
 ghost use Rattle.statements.specs.Settled.{next_of, names_of};
 ghost use Rattle.statements.specs.Sought.{sought};
 
-use crate::listing::Listing;
 use crate::refusal::StatementRefusal;
 use crate::seek::{Sought, seek};
 use crate::settle::{fail, finish};
+use crate::statement::Statement;
+use changes::after::After;
 use changes::success::Success;
-use joins::renewed::Renewed;
 use joins::side::renew;
 use placings::mode::Mode;
 use scan::answer::{Placed, Scanned, Verdict};
 use stores::store::Store;
 use symbols::kind::Kind;
-use tables::row::{Item, Next, RightSide, Row};
+use tables::places::first_places;
+use tables::row::{Next, RightSide};
 
 // The verdict of a statement, and the statement that comes next.
 #[derive(Clone, Copy)]
@@ -29,26 +31,9 @@ pub struct Done {
     pub next: Next,
 }
 
-fn pattern_items(row: &Row) -> &[Item]
-    ensures { result.now ≡ items_in row.now.pattern }
-{
-    let count = row.pattern.count.min(8);
-    &row.pattern.items[0..count]
-}
-
-fn placed_ends(placed: &Placed) -> &[usize]
-    ensures { result.now ≡ take placed.now.count placed.now.ends }
-{
-    let count = placed.count.min(8);
-    &placed.ends[0..count]
-}
-
 // A success with a right side: the string reference gets the joined operands, in an area of the longest string.
 fn replace<K: Kind, S: Store<Symbol = K::Symbol>>(
-    kind: &K,
-    listing: Listing<K::Symbol>,
-    row: &Row,
-    number: usize,
+    statement: Statement<K>,
     store: &mut S,
     reference: usize,
     success: Success<K::Symbol>,
@@ -62,49 +47,28 @@ fn replace<K: Kind, S: Store<Symbol = K::Symbol>>(
     requires subject { length success.subject.now ≤ (S.Store.held store.old).longest }
     requires contents { length contents.old ≡ (S.Store.held store.old).longest }
     requires scratch { (S.Store.held store.old).longest ≤ length scratch.old }
-    ensures answer { result ≡ next_of (replaces K.Kind.chars (listed listing.entry) number row.now (S.Store.held store.old) (told success.entry) reference (new_contents K.Kind.chars listing.entry.names.now listing.entry.constants.now (S.Store.held store.old) success.entry.subject.now success.entry.items.now success.entry.start success.entry.ends.now side.now)) }
-    ensures after { S.Store.held store.new ≡ names_of (S.Store.held store.old) (replaces K.Kind.chars (listed listing.entry) number row.now (S.Store.held store.old) (told success.entry) reference (new_contents K.Kind.chars listing.entry.names.now listing.entry.constants.now (S.Store.held store.old) success.entry.subject.now success.entry.items.now success.entry.start success.entry.ends.now side.now)) }
+    ensures answer { result ≡ next_of (replaces K.Kind.chars (listed statement.entry.listing) statement.entry.number statement.entry.row.now (S.Store.held store.old) (told success.entry) reference (new_contents K.Kind.chars statement.entry.listing.names.now statement.entry.listing.constants.now (S.Store.held store.old) success.entry.subject.now success.entry.items.now success.entry.start success.entry.ends.now side.now)) }
+    ensures after { S.Store.held store.new ≡ names_of (S.Store.held store.old) (replaces K.Kind.chars (listed statement.entry.listing) statement.entry.number statement.entry.row.now (S.Store.held store.old) (told success.entry) reference (new_contents K.Kind.chars statement.entry.listing.names.now statement.entry.listing.constants.now (S.Store.held store.old) success.entry.subject.now success.entry.items.now success.entry.start success.entry.ends.now side.now)) }
 {
-    match renew(
-        kind,
-        listing.names,
-        store,
-        listing.constants,
+    let after = After {
+        store: &*store,
         success,
-        side,
-        contents,
-        scratch,
-    ) {
-        Renewed::NoName => Err(StatementRefusal::NoName),
-        Renewed::TooLong => Err(StatementRefusal::TooLong),
-        Renewed::Fits(count) => {
-            let renewed = Success {
-                subject: success.subject,
-                items: success.items,
-                start: success.start,
-                ends: success.ends,
-                reference: Some(reference),
-                contents: &contents[0..count],
-            };
-            finish(
-                kind,
-                listing.rows,
-                store,
-                renewed,
-                number,
-                row.on_success,
-                scratch,
-            )
-        }
-    }
+    };
+    let count = renew(statement.listing, &after, success, side, contents, scratch)?;
+    let renewed = Success {
+        subject: success.subject,
+        items: success.items,
+        start: success.start,
+        ends: success.ends,
+        reference: Some(reference),
+        contents: &contents[0..count],
+    };
+    finish(statement, store, renewed, scratch)
 }
 
 // S at a placing: decided first, then written.
 fn succeed<'a, K: Kind, S: Store<Symbol = K::Symbol>>(
-    kind: &K,
-    listing: Listing<K::Symbol>,
-    row: &'a Row,
-    number: usize,
+    statement: Statement<'a, K>,
     store: &mut S,
     reference: usize,
     subject: &'a [K::Symbol],
@@ -112,38 +76,27 @@ fn succeed<'a, K: Kind, S: Store<Symbol = K::Symbol>>(
     contents: &mut [K::Symbol],
     scratch: &mut [K::Symbol],
 ) -> Result<Next, StatementRefusal>
-    requires sound { Sound (S.Store.held store.old) (cut (S.Store.held store.old) row.now reference placed.now.start (take placed.now.count placed.now.ends)) }
+    requires sound { Sound (S.Store.held store.old) (cut (S.Store.held store.old) statement.row.now reference placed.now.start (take placed.now.count placed.now.ends)) }
     requires reference { In (length (S.Store.held store.old).strings) reference }
     requires subject { subject.now ≡ under (S.Store.held store.old) reference }
     requires contents { (S.Store.held store.old).longest ≤ length contents.old }
     requires scratch { (S.Store.held store.old).longest ≤ length scratch.old }
-    ensures answer { result ≡ next_of (succeeds K.Kind.chars (listed listing.entry) number row.now (S.Store.held store.old) reference placed.now.start (take placed.now.count placed.now.ends)) }
-    ensures after { S.Store.held store.new ≡ names_of (S.Store.held store.old) (succeeds K.Kind.chars (listed listing.entry) number row.now (S.Store.held store.old) reference placed.now.start (take placed.now.count placed.now.ends)) }
+    ensures answer { result ≡ next_of (succeeds K.Kind.chars (listed statement.entry.listing) statement.entry.number statement.entry.row.now (S.Store.held store.old) reference placed.now.start (take placed.now.count placed.now.ends)) }
+    ensures after { S.Store.held store.new ≡ names_of (S.Store.held store.old) (succeeds K.Kind.chars (listed statement.entry.listing) statement.entry.number statement.entry.row.now (S.Store.held store.old) reference placed.now.start (take placed.now.count placed.now.ends)) }
 {
     let success = Success {
         subject,
-        items: pattern_items(row),
+        items: statement.row.pattern.items(),
         start: placed.start,
-        ends: placed_ends(placed),
+        ends: first_places(&placed.ends, placed.count),
         reference: None,
         contents: &[],
     };
     let longest = store.tell().longest;
-    match row.right_side {
-        None => finish(
-            kind,
-            listing.rows,
-            store,
-            success,
-            number,
-            row.on_success,
-            scratch,
-        ),
+    match statement.row.right_side {
+        None => finish(statement, store, success, scratch),
         Some(side) => replace(
-            kind,
-            listing,
-            row,
-            number,
+            statement,
             store,
             reference,
             success,
@@ -156,33 +109,27 @@ fn succeed<'a, K: Kind, S: Store<Symbol = K::Symbol>>(
 
 // What the verdict does to the contents that were sought, which stand at the front of `string`.
 fn conclude<K: Kind, S: Store<Symbol = K::Symbol>>(
-    kind: &K,
-    listing: Listing<K::Symbol>,
-    row: &Row,
-    number: usize,
+    statement: Statement<K>,
     store: &mut S,
     sought: Sought,
     string: &[K::Symbol],
     contents: &mut [K::Symbol],
     scratch: &mut [K::Symbol],
 ) -> Result<Next, StatementRefusal>
-    requires cuts { Cuts (S.Store.held store.old) row.now sought.reference sought.scanned.verdict }
+    requires cuts { Cuts (S.Store.held store.old) statement.row.now sought.reference sought.scanned.verdict }
     requires reference { In (length (S.Store.held store.old).strings) sought.reference }
     requires within { sought.length ≤ length string.now }
     requires string { take sought.length string.now ≡ under (S.Store.held store.old) sought.reference }
     requires contents { (S.Store.held store.old).longest ≤ length contents.old }
     requires scratch { (S.Store.held store.old).longest ≤ length scratch.old }
-    ensures answer { result ≡ next_of (follows K.Kind.chars (listed listing.entry) number row.now (S.Store.held store.old) sought.reference sought.scanned.verdict) }
-    ensures after { S.Store.held store.new ≡ names_of (S.Store.held store.old) (follows K.Kind.chars (listed listing.entry) number row.now (S.Store.held store.old) sought.reference sought.scanned.verdict) }
+    ensures answer { result ≡ next_of (follows K.Kind.chars (listed statement.entry.listing) statement.entry.number statement.entry.row.now (S.Store.held store.old) sought.reference sought.scanned.verdict) }
+    ensures after { S.Store.held store.new ≡ names_of (S.Store.held store.old) (follows K.Kind.chars (listed statement.entry.listing) statement.entry.number statement.entry.row.now (S.Store.held store.old) sought.reference sought.scanned.verdict) }
 {
     let length = sought.length;
     let subject = &string[0..length];
     match sought.scanned.verdict {
         Verdict::Success(placed) => succeed(
-            kind,
-            listing,
-            row,
-            number,
+            statement,
             store,
             sought.reference,
             subject,
@@ -190,15 +137,7 @@ fn conclude<K: Kind, S: Store<Symbol = K::Symbol>>(
             contents,
             scratch,
         ),
-        Verdict::Failure => fail(
-            kind,
-            listing.rows,
-            store,
-            number,
-            row.on_failure,
-            subject,
-            scratch,
-        ),
+        Verdict::Failure => fail(statement, store, scratch),
     }
 }
 
@@ -209,18 +148,12 @@ fn done_with(
 ) -> Result<Done, StatementRefusal>
     ensures { result ≡ done_with scanned next }
 {
-    Ok(Done {
-        scanned,
-        next: next?,
-    })
+    next.map(|next| Done { scanned, next })
 }
 
-// Carries out statement `number`, whose row is given, within so many trials. The first area takes the scanned string, the second the pattern's constants and then whatever is read, the third the new contents.
+// Carries out a statement within so many trials. The first area takes the scanned string, the second the pattern's constants and then whatever is read, the third the new contents.
 pub fn carry_out<K: Kind, S: Store<Symbol = K::Symbol>>(
-    kind: &K,
-    listing: Listing<K::Symbol>,
-    row: &Row,
-    number: usize,
+    statement: Statement<K>,
     mode: Mode,
     allowance: usize,
     store: &mut S,
@@ -228,28 +161,16 @@ pub fn carry_out<K: Kind, S: Store<Symbol = K::Symbol>>(
     area: &mut [K::Symbol],
     contents: &mut [K::Symbol],
 ) -> Result<Done, StatementRefusal>
-    requires carriable { Carriable (S.Store.held store.old) listing.names.now row.now }
+    requires carriable { Carriable (S.Store.held store.old) statement.listing.names.now statement.row.now }
     requires low { 1 ≤ allowance }
     requires high { allowance ≤ 1000000 }
     requires string { (S.Store.held store.old).longest ≤ length string.old }
     requires area { 8 * (S.Store.held store.old).longest ≤ length area.old }
     requires contents { (S.Store.held store.old).longest ≤ length contents.old }
-    ensures answer { result ≡ done_by K.Kind.chars (listed listing.entry) number row.now (S.Store.held store.old) (sought K.Kind.equal (K.Kind.acts kind.now) mode allowance K.Kind.chars listing.entry.names.now listing.entry.constants.now (S.Store.held store.old) row.now) }
-    ensures after { S.Store.held store.new ≡ names_of (S.Store.held store.old) (left_by K.Kind.chars (listed listing.entry) number row.now (S.Store.held store.old) (sought K.Kind.equal (K.Kind.acts kind.now) mode allowance K.Kind.chars listing.entry.names.now listing.entry.constants.now (S.Store.held store.old) row.now)) }
+    ensures answer { result ≡ done_by K.Kind.chars (listed statement.entry.listing) statement.entry.number statement.entry.row.now (S.Store.held store.old) (sought K.Kind.equal (K.Kind.acts statement.entry.listing.kind.now) mode allowance K.Kind.chars statement.entry.listing.names.now statement.entry.listing.constants.now (S.Store.held store.old) statement.entry.row.now) }
+    ensures after { S.Store.held store.new ≡ names_of (S.Store.held store.old) (left_by K.Kind.chars (listed statement.entry.listing) statement.entry.number statement.entry.row.now (S.Store.held store.old) (sought K.Kind.equal (K.Kind.acts statement.entry.listing.kind.now) mode allowance K.Kind.chars statement.entry.listing.names.now statement.entry.listing.constants.now (S.Store.held store.old) statement.entry.row.now)) }
 {
-    let sought = seek(
-        kind,
-        listing.names,
-        listing.constants,
-        row,
-        store,
-        mode,
-        allowance,
-        string,
-        area,
-    )?;
-    let next = conclude(
-        kind, listing, row, number, store, sought, string, contents, area,
-    );
+    let sought = seek(statement, &*store, mode, allowance, string, area)?;
+    let next = conclude(statement, store, sought, string, contents, area);
     done_with(sought.scanned, next)
 }

@@ -3,7 +3,7 @@
 
 pub mod carry;
 mod goto;
-pub mod listing;
 pub mod refusal;
 pub mod seek;
 mod settle;
+pub mod statement;

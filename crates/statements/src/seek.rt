@@ -1,20 +1,18 @@
 // The string reference of a statement, and the verdict on its contents.
 ghost use Rattle.std.specs.Prelude.{◌≡◌, ◌*◌, ◌≤◌, length};
-ghost use Rattle.patterns.specs.Gathered.{elements_in};
 ghost use Rattle.statements.specs.Sought.{unscanned_success, element_verdict, found, sought, Fetched};
 
 use crate::refusal::StatementRefusal;
+use crate::statement::Statement;
 use patterns::gather::gather;
-use patterns::gathered::Gathered;
-use patterns::reference::{contents, meant_by};
+use patterns::reference::meant_by;
+use patterns::strings::contents;
 use placings::mode::Mode;
 use scan::answer::{Placed, Scanned, Verdict};
 use scan::element::Element;
 use scan::scan;
 use stores::store::Store;
 use symbols::kind::Kind;
-use tables::row::Row;
-use tables::sheet::NameTable;
 
 // The number of the string reference, the length of its contents, and the verdict on them.
 #[derive(Clone, Copy)]
@@ -48,18 +46,10 @@ fn judge<K: Kind>(
 ) -> Result<Scanned, StatementRefusal>
     ensures { result ≡ element_verdict K.Kind.equal (K.Kind.acts kind.now) mode allowance subject.now constants.now elements.now }
 {
-    if elements.len() == 0 {
+    if elements.is_empty() {
         return Ok(unscanned_success());
     }
     Ok(scan(kind, subject, constants, elements, mode, allowance)?)
-}
-
-// The elements that were gathered.
-fn gathered_elements(gathered: &Gathered) -> &[Element]
-    ensures { result.now ≡ elements_in gathered.now }
-{
-    let count = gathered.count.min(8);
-    &gathered.elements[0..count]
 }
 
 // The string reference with the verdict on its contents, if there is one.
@@ -70,19 +60,16 @@ fn found(
 ) -> Result<Sought, StatementRefusal>
     ensures { result ≡ found reference length judged }
 {
-    Ok(Sought {
+    judged.map(|scanned| Sought {
         reference,
         length,
-        scanned: judged?,
+        scanned,
     })
 }
 
 // Finds the string reference and the pattern of a statement, and scans; the first area takes the scanned string, the second the pattern's constants.
 pub fn seek<K: Kind, S: Store<Symbol = K::Symbol>>(
-    kind: &K,
-    table: &NameTable,
-    constants: &[K::Symbol],
-    row: &Row,
+    statement: Statement<K>,
     store: &S,
     mode: Mode,
     allowance: usize,
@@ -93,15 +80,16 @@ pub fn seek<K: Kind, S: Store<Symbol = K::Symbol>>(
     requires area { 8 * (S.Store.held store.now).longest ≤ length area.old }
     requires low { 1 ≤ allowance }
     requires high { allowance ≤ 1000000 }
-    ensures value { result ≡ sought K.Kind.equal (K.Kind.acts kind.now) mode allowance K.Kind.chars table.now constants.now (S.Store.held store.now) row.now }
+    ensures value { result ≡ sought K.Kind.equal (K.Kind.acts statement.entry.listing.kind.now) mode allowance K.Kind.chars statement.entry.listing.names.now statement.entry.listing.constants.now (S.Store.held store.now) statement.entry.row.now }
     ensures fetched { Fetched (S.Store.held store.now) string.new result }
 {
-    let Some(reference) = meant_by(kind, table, store, row.reference, string) else {
+    let listing = statement.listing;
+    let Some(reference) = meant_by(listing, store, statement.row.reference, string) else {
         return Err(StatementRefusal::NoName);
     };
-    let gathered = gather(kind, table, store, constants, &row.pattern, area)?;
+    let gathered = gather(listing, store, &statement.row.pattern, area)?;
     let length = contents(store, reference, string);
-    let elements = gathered_elements(&gathered);
-    let judged = judge(kind, &string[0..length], area, elements, mode, allowance);
+    let elements = gathered.elements();
+    let judged = judge(listing.kind, &string[0..length], area, elements, mode, allowance);
     found(reference, length, judged)
 }

@@ -14,7 +14,7 @@ pub loop-i-init : goal.loop-i-init
 unfolding all_fit
 loop-i-init g c =
     let names = g.S.Store.held c.args.store.now in
-    (omega arith, refl, refl, comes_first g.K.Kind.chars c.args.table.now c.args.constants.now names names.longest c.args.items.now ∙ prepended_nil _)
+    (omega arith, refl, refl, comes_first g.K.Kind.chars c.args.listing.names.now c.args.listing.constants.now names names.longest c.args.items.now ∙ prepended_nil _)
 
 pub gather_item-requires : goal.gather_item-requires
 gather_item-requires g c =
@@ -28,9 +28,9 @@ returns-in_err-element g c =
     let items = c.args.items.now in
     let i = c.loop-i.i in
     let chars = g.K.Kind.chars in
-    let found = c.in_err-element.ensures.value ∙ ap (λ n. option_map (fit names.longest) (item_element chars c.args.table.now c.args.constants.now names (take n items) (get_or items i (Operand (Literal 0 0))))) (sub-zero i) in
+    let found = c.in_err-element.ensures.value ∙ ap (λ n. option_map (fit names.longest) (item_element chars c.args.listing.names.now c.args.listing.constants.now names (take n items) (get_or items i (Operand (Literal 0 0))))) (sub-zero i) in
     rw c.from_residual.ensures record {
-      value = sym (c.loop-i.invariant.3 ∙ comes_none chars c.args.table.now c.args.constants.now names names.longest items i (Operand (Literal 0 0)) (pattern c.loop-i.area (take i c.loop-i.elements)) c.loop-i-test.true found);
+      value = sym (c.loop-i.invariant.3 ∙ comes_none chars c.args.listing.names.now c.args.listing.constants.now names names.longest items i (Operand (Literal 0 0)) (pattern c.loop-i.area (take i c.loop-i.elements)) c.loop-i-test.true found);
       fitting = tt;
     }
 
@@ -53,14 +53,14 @@ loop-i-preserved g c =
     let many : length (take (i - 0) items) ≡ 0 + length (take i elements) = ap (λ n. length (take n items)) (sub-zero i) ∙ length-take-le i items (omega (arith, c.loop-i-test.true)) ∙ sym (omega (arith, length-take-le i elements (omega arith))) in
     let fitting : fits used (0 + length (take i elements)) e ≡ true = ap (λ n. fits used n e) (sym many) ∙ ap (λ n. fits n (length (take (i - 0) items)) e) ends ∙ gathers.adds.fitting in
     let are : take (i + 1) (set elements i e) ≡ take i elements ++ e ∷ [] = take_more_set elements i e lt in
-    let found = gathers.value ∙ ap (λ n. option_map (fit names.longest) (item_element chars c.args.table.now c.args.constants.now names (take n items) (get_or items i (Operand (Literal 0 0))))) (sub-zero i) in (
+    let found = gathers.value ∙ ap (λ n. option_map (fit names.longest) (item_element chars c.args.listing.names.now c.args.listing.constants.now names (take n items) (get_or items i (Operand (Literal 0 0))))) (sub-zero i) in (
       omega (arith, inv.0, suc-mul i names.longest, ap (λ n. n * names.longest) (add-one i)),
       length-set elements i e ∙ inv.1,
       ap (all_fit used 0) are ∙ all_fit_push used 0 (take i elements) e (all_fit_more c.loop-i.used used 0 more (take i elements) inv.2) fitting,
       inv.3
-          ∙ ap (λ t. prepended t (to_come chars c.args.table.now c.args.constants.now names names.longest items i)) (pattern_before c.loop-i.area area c.loop-i.used 0 (sym gathers.kept) (take i elements) inv.2)
-          ∙ comes_some chars c.args.table.now c.args.constants.now names names.longest items i (Operand (Literal 0 0)) (pattern area (take i elements)) (stands area e) c.loop-i-test.true found
-          ∙ ap (λ t. prepended t (to_come chars c.args.table.now c.args.constants.now names names.longest items (i + 1))) (sym (ap (pattern area) are ∙ map_push (stands area) (take i elements) e)),
+          ∙ ap (λ t. prepended t (to_come chars c.args.listing.names.now c.args.listing.constants.now names names.longest items i)) (pattern_before c.loop-i.area area c.loop-i.used 0 (sym gathers.kept) (take i elements) inv.2)
+          ∙ comes_some chars c.args.listing.names.now c.args.listing.constants.now names names.longest items i (Operand (Literal 0 0)) (pattern area (take i elements)) (stands area e) c.loop-i-test.true found
+          ∙ ap (λ t. prepended t (to_come chars c.args.listing.names.now c.args.listing.constants.now names names.longest items (i + 1))) (sym (ap (pattern area) are ∙ map_push (stands area) (take i elements) e)),
     )
 
 pub returns : goal.returns
@@ -74,6 +74,6 @@ returns g c =
     let same : i ≡ length items = omega (arith, c.loop-i.auto.i-end, c.loop-i-test.false) in
     let room : c.loop-i.used ≤ length area = omega (arith, inv.0, mul-le-mul_right {m = i} {n = 8} names.longest (omega (arith, c.requires.few)), c.requires.room, c.loop-i.auto.area) in
     record {
-      value = sym (inv.3 ∙ comes_last g.K.Kind.chars c.args.table.now c.args.constants.now names names.longest items i (pattern area (take i elements)) c.loop-i-test.false ∙ ap (λ n. Some (pattern area (take n elements))) same);
+      value = sym (inv.3 ∙ comes_last g.K.Kind.chars c.args.listing.names.now c.args.listing.constants.now names names.longest items i (pattern area (take i elements)) c.loop-i-test.false ∙ ap (λ n. Some (pattern area (take n elements))) same);
       fitting = (omega (arith, length-take-le (length items) elements (omega (arith, inv.1, c.requires.few)), c.requires.few), ap (λ n. all_fit (length area) 0 (take n elements)) (sym same) ∙ all_fit_more c.loop-i.used (length area) 0 room (take i elements) inv.2);
     }

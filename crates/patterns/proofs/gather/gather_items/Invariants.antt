@@ -11,5 +11,5 @@ invariant-loop-i g l =
     (l.used ≤ l.i * (g.S.Store.held l.store).longest)
     × (length l.elements ≡ 8)
     × (all_fit l.used 0 (take l.i l.elements) ≡ true)
-    × (option_map (fitted (g.S.Store.held l.store).longest) (resolved g.K.Kind.chars l.table l.constants (g.S.Store.held l.store) l.items)
-    ≡ prepended (pattern l.area (take l.i l.elements)) (to_come g.K.Kind.chars l.table l.constants (g.S.Store.held l.store) (g.S.Store.held l.store).longest l.items l.i))
+    × (option_map (fitted (g.S.Store.held l.store).longest) (resolved g.K.Kind.chars l.listing.names.now l.listing.constants.now (g.S.Store.held l.store) l.items)
+    ≡ prepended (pattern l.area (take l.i l.elements)) (to_come g.K.Kind.chars l.listing.names.now l.listing.constants.now (g.S.Store.held l.store) (g.S.Store.held l.store).longest l.items l.i))

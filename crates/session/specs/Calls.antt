@@ -1,10 +1,9 @@
 -- Why each call of a session is refused, and what the calls that change nothing answer. Assumes nothing.
-use Rattle.std.specs.Prelude.{ℕ, Bool, cond, ◌&&◌, List, length, Some, None, codes, Option, Result, nat_le}
+use Rattle.std.specs.Prelude.{ℕ, Bool, cond, ◌&&◌, List, length, Some, None, Option, Result, nat_le}
 use Rattle.std.specs.Option.{option_map}
-use Rattle.std.specs.Str.{bytes_eq}
 use Rattle.symbols.specs.Answers.{answered, unless, over}
 use Rattle.placings.specs.declared.mode.Mode.{Mode}
-use Rattle.placings.specs.declared.mode.Mode.TheVariants.{Anchored, Unanchored}
+use Rattle.placings.specs.Modes.{mode_word}
 use Rattle.stores.specs.Names.{Names, under}
 use Rattle.stores.specs.Calls.{put_refusal, fetch_refusal}
 use Rattle.tables.specs.Lookups.{name_number}
@@ -37,10 +36,6 @@ unknown s k = cond (numbered s.counts.names k) None (Some OutOfRange)
 -- the refusal of a record area that takes no more
 unfoldable pub full : {X : Type 0} → State X → Option Refusal
 full s = cond (nat_le s.room s.recorded) (Some RecordFull) None
-
--- the mode that a word chooses
-abbrev pub mode_word : List ℕ → Option Mode
-mode_word word = cond (bytes_eq word (codes "ANCHOR")) (Some Anchored) (cond (bytes_eq word (codes "UNANCHOR")) (Some Unanchored) None)
 
 -- the refusal of a word that chooses no mode
 abbrev pub no_mode : Option Mode → Option Refusal

@@ -4,6 +4,7 @@ use Rattle.std.specs.Option.{unwrap_or}
 use Rattle.symbols.specs.Answers.{answered, over}
 use Rattle.placings.specs.declared.mode.Mode.{Mode}
 use Rattle.placings.specs.declared.mode.Mode.TheVariants.{Anchored, Unanchored}
+use Rattle.placings.specs.Modes.{mode_word}
 use Rattle.stores.specs.Names.{Names, with_string}
 use Rattle.tables.specs.declared.row.Next.{Next}
 use Rattle.session.specs.declared.entry.Entry.{Entry}
@@ -12,7 +13,7 @@ use Rattle.session.specs.declared.entry.EntryKind.TheVariants.{Given, Restarted,
 use Rattle.session.specs.declared.refusal.Refusal.{Refusal}
 use Rattle.session.specs.Entries.{plain}
 use Rattle.session.specs.State.{State}
-use Rattle.session.specs.Calls.{mode_word, give_refusal, word_refusal, restart_refusal}
+use Rattle.session.specs.Calls.{give_refusal, word_refusal, restart_refusal}
 
 -- what an accepted call makes of names, mode and next statement, and its entry
 pub record Effect (X : Type 0) : Type 0 where

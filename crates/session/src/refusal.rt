@@ -1,23 +1,33 @@
 // Why a session refuses a call.
 ghost use Rattle.std.specs.Prelude.{◌≡◌, Some, None, cond};
 ghost use Rattle.symbols.specs.Answers.{answered};
+ghost use Rattle.session.specs.declared.refusal.Refusal.TheVariants.{NoWord};
 ghost use Rattle.session.specs.Refusals.{refusal_number, stored, stated};
 
+use placings::mode::NoMode;
 use statements::refusal::StatementRefusal;
-use std::error::Error;
-use std::fmt;
 use stores::refusal::StoreRefusal;
+use thiserror::Error;
 
-#[derive(Clone, Copy, PartialEq, Eq, Debug)]
+#[derive(Clone, Copy, PartialEq, Eq, Debug, Error)]
 pub enum Refusal {
+    #[error("END is next")]
     AtEnd = 21,
+    #[error("the record area takes no more entries")]
     RecordFull = 22,
+    #[error("an area is too short")]
     ShortArea = 23,
+    #[error("a `$` that yields no name or label of the sheet")]
     NoName = 24,
+    #[error("the trials of the scan are more than the allowance")]
     Spent = 25,
+    #[error("a string or all strings together would be too long")]
     TooLong = 26,
+    #[error("a number out of its range")]
     OutOfRange = 27,
+    #[error("a mode other than ANCHOR and UNANCHOR")]
     NoWord = 28,
+    #[error("tables that do not fit")]
     Unfit = 29,
 }
 
@@ -37,23 +47,13 @@ impl Refusal {
     }
 }
 
-impl fmt::Display for Refusal {
-    fn fmt<W: fmt::Write>(&self, f: &mut fmt::Formatter<W>) -> fmt::Result {
-        f.write_str(match self {
-            Refusal::AtEnd => "END is next",
-            Refusal::RecordFull => "the record area takes no more entries",
-            Refusal::ShortArea => "an area is too short",
-            Refusal::NoName => "`$` yields no name or label of the sheet",
-            Refusal::Spent => "the trials of the scan are more than the allowance",
-            Refusal::TooLong => "a string or all strings together would be too long",
-            Refusal::OutOfRange => "a number is out of its range",
-            Refusal::NoWord => "a mode other than ANCHOR and UNANCHOR",
-            Refusal::Unfit => "the tables do not fit",
-        })
+impl From<NoMode> for Refusal {
+    ghost from_gives = { λ _ r. r ≡ NoWord };
+
+    fn from(_e: NoMode) -> Refusal {
+        Refusal::NoWord
     }
 }
-
-impl Error for Refusal {}
 
 impl From<StoreRefusal> for Refusal {
     ghost from_gives = { λ e r. r ≡ stored e };

@@ -3,7 +3,7 @@ ghost use Rattle.std.specs.Prelude.{◌≡◌, ◌+◌, ◌<◌, List, [], lengt
 ghost use Rattle.symbols.specs.Answers.{answered};
 ghost use Rattle.session.specs.declared.entry.Entry.{Entry};
 ghost use Rattle.session.specs.State.{state, opened, with_recorded};
-ghost use Rattle.session.specs.Calls.{opens, fits, unfit, unknown, full, mode_word, open_refusal, give_refusal, word_refusal, restart_refusal, look_answer, after_look, found};
+ghost use Rattle.session.specs.Calls.{opens, fits, unfit, unknown, full, open_refusal, give_refusal, word_refusal, restart_refusal, look_answer, after_look, found};
 ghost use Rattle.session.specs.Effects.{Leaves, give_effect, mode_effect, restart_effect};
 
 use crate::entry::{Entry, EntryKind};
@@ -27,17 +27,6 @@ pub struct Session<K, S> {
     pub(crate) mode: Mode,
     pub(crate) next: Next,
     pub(crate) recorded: usize,
-}
-
-// The mode that a word chooses.
-fn mode_of(word: &str) -> Option<Mode>
-    ensures { result ≡ mode_word word.now }
-{
-    match word {
-        "ANCHOR" => Some(Mode::Anchored),
-        "UNANCHOR" => Some(Mode::Unanchored),
-        _ => None,
-    }
 }
 
 // Whether tables may be opened over a store.
@@ -187,7 +176,7 @@ impl<K: Kind + Drop, S: Store<Symbol = K::Symbol>> Session<K, S> {
         ensures kind { self.new.kind ≡ self.old.kind }
     {
         self.check_fit()?;
-        let mode = mode_of(word).ok_or(Refusal::NoWord)?;
+        let mode = word.parse::<Mode>()?;
         self.check_room(entries)?;
         self.mode = mode;
         self.note(entries, Entry::plain(EntryKind::from(mode), 0));

@@ -1,6 +1,7 @@
 use Rattle.std.proofs.Common.{◌≡◌, set, Some, None, sym, refl, ap, ◌∙◌}
 use Rattle.std.proofs.lemmas.Result.{err_from_is_err_and}
 use Rattle.symbols.specs.Answers.{answered}
+use Rattle.placings.specs.Modes.{mode_word}
 use Rattle.session.specs.Calls.{no_mode, word_refusal}
 use Rattle.session.specs.Effects.{chosen}
 use Rattle.session.specs.Entries.{plain}
@@ -25,7 +26,7 @@ returns-in_err-mode g c =
     let area = c.args.entries.now in
     let p = err_from_is_err_and c.from_residual-in_err-mode.result c.from_residual-in_err-mode.ensures.1 in
     let fits = answered_ok _ _ _ _ c.in_ok-check_fit.was c.check_fit.ensures in
-    let unknown = ap no_mode (sym c.mode_of.ensures) ∙ word_unknown c.mode_of.result _ _ c.ok_or.ensures.value c.in_err-mode.was in
+    let unknown = word_unknown (mode_word c.args.word.now) c.parse.result _ c.parse.ensures.value c.in_err-mode.was in
     let is : word_refusal (state g.S.Store.held s area) c.args.word.now ≡ Some _ = goes_on _ _ fits ∙ stops _ _ _ unknown in
     rw (p.1, p.2) (record { answer = ap (λ o. answered o tt) (sym is); leaves = kept g.S.Store.held s area s.store _ _ _ is refl; kind = refl })
 
@@ -35,7 +36,7 @@ returns-in_err-check_room g c =
     let area = c.args.entries.now in
     let p = err_from_is_err_and c.from_residual-in_err-check_room.result c.from_residual-in_err-check_room.ensures.1 in
     let fits = answered_ok _ _ _ _ c.in_ok-check_fit.was c.check_fit.ensures in
-    let named = sym c.mode_of.ensures ∙ word_known c.mode_of.result _ _ c.ok_or.ensures.value c.in_ok-mode.was in
+    let named = word_known (mode_word c.args.word.now) c.parse.result _ c.parse.ensures.value c.in_ok-mode.was in
     let fills = answered_err _ _ _ _ c.in_err-check_room.was c.check_room.ensures in
     let is : word_refusal (state g.S.Store.held s area) c.args.word.now ≡ Some _ = goes_on _ _ fits ∙ (goes_on _ _ (ap no_mode named) ∙ fills) in
     rw (p.1, p.2) (record { answer = ap (λ o. answered o tt) (sym is); leaves = kept g.S.Store.held s area s.store _ _ _ is refl; kind = refl })
@@ -52,7 +53,7 @@ returns g c =
     let before = state g.S.Store.held s area in
     let mode = c.in_ok-mode.mode in
     let fits = answered_ok _ _ _ _ c.in_ok-check_fit.was c.check_fit.ensures in
-    let named = sym c.mode_of.ensures ∙ word_known c.mode_of.result _ _ c.ok_or.ensures.value c.in_ok-mode.was in
+    let named = word_known (mode_word c.args.word.now) c.parse.result _ c.parse.ensures.value c.in_ok-mode.was in
     let room = answered_ok _ _ _ _ c.in_ok-check_room.was c.check_room.ensures in
     let is : word_refusal before c.args.word.now ≡ None = goes_on _ _ fits ∙ (goes_on _ _ (ap no_mode named) ∙ room) in
     let entry = c.plain.ensures ∙ ap (λ k. plain k 0) c.from.ensures in

@@ -5,28 +5,6 @@ use lines::text::Lines;
 use sheets::fault::{Cause, Refusal};
 use std::fmt;
 
-// What is wrong, in plain words.
-#[derive(Clone, Copy)]
-struct Words(Cause);
-
-impl fmt::Display for Words {
-    fn fmt<W: fmt::Write>(&self, f: &mut fmt::Formatter<W>) -> fmt::Result {
-        f.write_str(match self.0 {
-            Cause::TextLong => "the text is longer than 16,384 characters",
-            Cause::LineLong => "the line is longer than 120 characters",
-            Cause::BadCode => "this character may not stand in a sheet",
-            Cause::NoStatement => "no statement goes on like this",
-            Cause::LongName => "a name or a label has at most 16 characters",
-            Cause::Symbol(_) => "the literal is not read as symbols",
-            Cause::TooMany => "this is one too many",
-            Cause::SecondLabel => "another statement has this label",
-            Cause::UnknownLabel => "no statement has this label",
-            Cause::End => "END's line is missing, or something follows it",
-            Cause::ShortArea => "the areas of the host are too short",
-        })
-    }
-}
-
 // The characters of a line, with `?` for what cannot be printed.
 #[derive(Clone, Copy)]
 struct Printable<'a>(&'a [u8]);
@@ -55,7 +33,7 @@ impl<'a> fmt::Display for Refused<'a> {
             column,
             cause,
         } = self.refusal;
-        let (number, layer, words) = (cause.number(), cause.layer(), Words(cause));
+        let (number, layer) = (cause.number(), cause.layer());
         write!(
             f,
             "refused {number} line {line} column {column} layer {layer}"
@@ -65,11 +43,11 @@ impl<'a> fmt::Display for Refused<'a> {
             write!(f, " symbol {fault}")?;
         }
         if line == 0 {
-            return write!(f, "\n{words}");
+            return write!(f, "\n{cause}");
         }
         let place = Lines::of(self.text).nth(line - 1);
         let shown = Printable(place.map_or(&[], |place| place.line));
-        write!(f, "\n{shown}\n{:>column$} {words}", '^')
+        write!(f, "\n{shown}\n{:>column$} {cause}", '^')
     }
 }
 

@@ -137,18 +137,18 @@ module _ (reads : List ℕ → Result ℕ TextFault) (s : List ℕ) (n : Count) 
   pub elements_bound : n.elements ≤ 8 → n.elements + elements_opened (opened_by t.role) ≤ 8
   elements_bound h = go (opened_by t.role) few
     where
-      go : (o : Opened) → leb 8 (opened_before o n.elements n.operands) ≡ false → n.elements + elements_opened o ≤ 8
-      go Opened.Nothing e = omega arith
-      go Opened.Element e = grind (arith, nat_tests)
-      go Opened.Operand e = omega arith
+      go : (o : Option Opened) → leb 8 (opened_before o n.elements n.operands) ≡ false → n.elements + elements_opened o ≤ 8
+      go None e = omega arith
+      go (Some Opened.Element) e = grind (arith, nat_tests)
+      go (Some Opened.Operand) e = omega arith
 
   pub operands_bound : n.operands ≤ 8 → n.operands + operands_opened (opened_by t.role) ≤ 8
   operands_bound h = go (opened_by t.role) few
     where
-      go : (o : Opened) → leb 8 (opened_before o n.elements n.operands) ≡ false → n.operands + operands_opened o ≤ 8
-      go Opened.Nothing e = omega arith
-      go Opened.Element e = omega arith
-      go Opened.Operand e = grind (arith, nat_tests)
+      go : (o : Option Opened) → leb 8 (opened_before o n.elements n.operands) ≡ false → n.operands + operands_opened o ≤ 8
+      go None e = omega arith
+      go (Some Opened.Element) e = omega arith
+      go (Some Opened.Operand) e = grind (arith, nat_tests)
 
   named : (brings_name s t && (leb 64 (length n.names) && absent (position (spelling s t) n.names))) ≡ false
   named =

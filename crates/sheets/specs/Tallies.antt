@@ -58,10 +58,10 @@ abbrev pub long_name : List ℕ → Token → List Fault
 long_name s t = when (sort_limited (sort_of t.role) && nat_lt 16 (word s t).size) (fault ((word s t).start + 1) Cause.LongName)
 
 -- how many there are of what a token begins
-abbrev pub opened_before : Opened → ℕ → ℕ → ℕ
-opened_before Opened.Nothing elements operands = 0
-opened_before Opened.Element elements operands = elements
-opened_before Opened.Operand elements operands = operands
+abbrev pub opened_before : Option Opened → ℕ → ℕ → ℕ
+opened_before None elements operands = 0
+opened_before (Some Opened.Element) elements operands = elements
+opened_before (Some Opened.Operand) elements operands = operands
 
 -- the ninth element or right side operand, at its first character
 abbrev pub ninth : ℕ → ℕ → Token → List Fault
@@ -78,16 +78,16 @@ extra_name s names t =
     when (brings_name s t && (nat_le 64 (length names) && absent (position (spelling s t) names))) (fault ((word s t).start + 1) Cause.TooMany)
 
 -- how many elements a token begins: one or none
-abbrev pub elements_opened : Opened → ℕ
-elements_opened Opened.Nothing = 0
-elements_opened Opened.Element = 1
-elements_opened Opened.Operand = 0
+abbrev pub elements_opened : Option Opened → ℕ
+elements_opened None = 0
+elements_opened (Some Opened.Element) = 1
+elements_opened (Some Opened.Operand) = 0
 
 -- how many right side operands a token begins: one or none
-abbrev pub operands_opened : Opened → ℕ
-operands_opened Opened.Nothing = 0
-operands_opened Opened.Element = 0
-operands_opened Opened.Operand = 1
+abbrev pub operands_opened : Option Opened → ℕ
+operands_opened None = 0
+operands_opened (Some Opened.Element) = 0
+operands_opened (Some Opened.Operand) = 1
 
 -- what a token spells is a literal
 abbrev pub sort_literal : Sort → Bool

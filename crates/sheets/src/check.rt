@@ -18,7 +18,7 @@ use lines::tokens::Tokens;
 use symbols::kind::Kind;
 
 // What the lines so far have brought: statements, constant symbols, names, and END's line.
-#[derive(Clone, Copy, Drop)]
+#[derive(Clone, Copy, Debug, PartialEq, Eq, Drop)]
 pub struct Carried {
     pub statements: usize,
     pub symbols: usize,

@@ -17,10 +17,9 @@ pub enum Sort {
     Literal,
 }
 
-// What a token begins: an element, a right side operand, or neither.
+// What a token may begin: an element, or a right side operand.
 #[derive(Clone, Copy, Debug, PartialEq, Eq, Drop)]
 pub enum Opened {
-    Nothing,
     Element,
     Operand,
 }
@@ -38,13 +37,13 @@ pub fn sort_of(role: Role) -> Sort
     }
 }
 
-pub fn opened_by(role: Role) -> Opened
+pub fn opened_by(role: Role) -> Option<Opened>
     ensures { result ≡ opened_by role }
 {
     match role {
-        Role::Element | Role::LiteralElement | Role::Star => Opened::Element,
-        Role::Operand | Role::LiteralOperand => Opened::Operand,
-        _ => Opened::Nothing,
+        Role::Element | Role::LiteralElement | Role::Star => Some(Opened::Element),
+        Role::Operand | Role::LiteralOperand => Some(Opened::Operand),
+        _ => None,
     }
 }
 

@@ -21,11 +21,7 @@ pub struct Outline {
 pub fn nowhere(cause: Cause) -> Refusal
     ensures { result ≡ nowhere cause }
 {
-    Refusal {
-        line: 0,
-        column: 0,
-        cause,
-    }
+    Refusal::nowhere(cause)
 }
 
 // Checks the text of a sheet, its literals as symbols of the kind.
@@ -33,13 +29,13 @@ pub fn survey<K: Kind>(kind: &K, text: &[u8]) -> Result<Outline, Refusal>
     ensures { Surveyed (text_refusal (counts K.Kind.meant K.Kind.WIDTH) text.now) (brought (counts K.Kind.meant K.Kind.WIDTH) text.now) text.now result }
 {
     if text.len() > 16384 {
-        return Err(nowhere(Cause::TextLong));
+        return Err(Refusal::nowhere(Cause::TextLong));
     }
     let mut names = [Part { start: 0, size: 0 }; 65];
     let mut labels = [Part { start: 0, size: 0 }; 129];
     let carried = check_lines(kind, text, &mut names, &mut labels)?;
     if !carried.ended {
-        return Err(nowhere(Cause::End));
+        return Err(Refusal::nowhere(Cause::End));
     }
     let known = Words::first(text, &labels, carried.statements);
     if let Some(refusal) = unknown_label(known) {

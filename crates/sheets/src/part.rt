@@ -4,7 +4,7 @@ ghost use Rattle.std.specs.Str.{bytes_eq};
 ghost use Rattle.sheets.specs.Parts.{part_of, words, position, First, with_word};
 
 // A part of a text: where it starts, counted from 0, and its length.
-#[derive(Clone, Copy, Drop)]
+#[derive(Clone, Copy, Debug, PartialEq, Eq, Drop)]
 pub struct Part {
     pub start: usize,
     pub size: usize,

@@ -18,7 +18,7 @@ use symbols::kind::Kind;
 use symbols::text::check_text;
 
 // How many elements and right side operands a statement has so far, and how many constant symbols and names its sheet has.
-#[derive(Clone, Copy, Drop)]
+#[derive(Clone, Copy, Debug, PartialEq, Eq, Drop)]
 pub struct Tally {
     pub elements: usize,
     pub operands: usize,
@@ -46,9 +46,9 @@ fn ninth(tally: Tally, lexeme: Lexeme<'_>) -> Option<Fault>
     ensures { result ≡ first (ninth tally.elements tally.operands lexeme.entry.token) }
 {
     let before = match opened_by(lexeme.token.role) {
-        Opened::Nothing => 0,
-        Opened::Element => tally.elements,
-        Opened::Operand => tally.operands,
+        Some(Opened::Element) => tally.elements,
+        Some(Opened::Operand) => tally.operands,
+        None => 0,
     };
     (before >= 8).then_some(Fault {
         column: lexeme.token.start + 1,
@@ -151,16 +151,16 @@ fn note_name(line: Line<'_>, names: &mut [Part], count: usize, lexeme: Lexeme<'_
     note_word(line.text, names, count, named)
 }
 
-fn elements_opened(opened: Opened) -> usize
+fn elements_opened(opened: Option<Opened>) -> usize
     ensures { result ≡ elements_opened opened }
 {
-    usize::from(opened == Opened::Element)
+    usize::from(opened == Some(Opened::Element))
 }
 
-fn operands_opened(opened: Opened) -> usize
+fn operands_opened(opened: Option<Opened>) -> usize
     ensures { result ≡ operands_opened opened }
 {
-    usize::from(opened == Opened::Operand)
+    usize::from(opened == Some(Opened::Operand))
 }
 
 // One token: what is counted with it, or its fault.

@@ -17,8 +17,8 @@ pub record Cut (s : Lines) (x : Line) (t : Lines) : Type 0 where
   pub from : x.from ≡ s.from
   pub text : x.text.now ≡ s.text.now
   pub same : t.text.now ≡ s.text.now
-  pub on : t.from ≡ (x.from + length x.line.now) + 1
-  pub line : lines_left s ≡ x.line.now ∷ lines_left t
+  pub on : t.from ≡ (x.from + length x.characters.now) + 1
+  pub line : lines_left s ≡ x.characters.now ∷ lines_left t
 
 -- what one call gives: the next line, absent just if there is none
 abbrev pub GivesLine : Lines → Option Line → Lines → Type 0

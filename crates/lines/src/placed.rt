@@ -7,7 +7,7 @@ ghost use Rattle.lines.specs.Texts.{Lies};
 pub struct Line<'a> {
     pub text: &'a [u8],
     pub from: usize,
-    pub line: &'a [u8],
+    pub characters: &'a [u8],
     pub ghost place: { from ≤ length text.now },
-    pub ghost lies: { Lies text.now from line.now },
+    pub ghost lies: { Lies text.now from characters.now },
 }

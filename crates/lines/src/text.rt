@@ -1,8 +1,8 @@
 // The lines of a text.
 ghost use Rattle.std.specs.Prelude.{◌≡◌, ◌+◌, ◌-◌, ◌≤◌, length, drop};
-ghost use Rattle.std.specs.Iterator.{item_count};
+ghost use Rattle.std.specs.Iterator.{at_most};
 ghost use Rattle.lines.specs.Texts.{line_length};
-ghost use Rattle.lines.specs.Walks.{lines_left, GivesLine};
+ghost use Rattle.lines.specs.Walks.{GivesLine};
 
 use crate::placed::Line;
 
@@ -46,7 +46,7 @@ impl<'a> Iterator for Lines<'a> {
 
     ghost next_gives = { GivesLine };
 
-    ghost remaining = { item_count lines_left };
+    ghost remaining = { λ s. at_most (length s.text.now - s.from) };
 
     fn next(&mut self) -> Option<Line<'a>> {
         if self.from >= self.text.len() {
@@ -58,7 +58,7 @@ impl<'a> Iterator for Lines<'a> {
         Some(Line {
             text: self.text,
             from,
-            line: &self.text[from..end],
+            characters: &self.text[from..end],
         })
     }
 }

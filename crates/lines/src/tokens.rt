@@ -1,6 +1,6 @@
 // The tokens of a line, one after the other.
-ghost use Rattle.std.specs.Prelude.{◌≡◌};
-ghost use Rattle.std.specs.Iterator.{item_count};
+ghost use Rattle.std.specs.Prelude.{◌≡◌, ◌-◌, length};
+ghost use Rattle.std.specs.Iterator.{at_most};
 ghost use Rattle.lines.specs.Tokens.{tokens};
 ghost use Rattle.lines.specs.Walks.{tokens_left, GivesToken};
 
@@ -34,7 +34,7 @@ impl<'a> Iterator for Tokens<'a> {
 
     ghost next_gives = { GivesToken };
 
-    ghost remaining = { item_count tokens_left };
+    ghost remaining = { λ s. at_most (length s.line.now - s.at) };
 
     fn next(&mut self) -> Option<Lexeme<'a>> {
         let taken = token_at(self.line, self.at, self.reading)?;

@@ -32,12 +32,6 @@ write_constants-requires g c =
     let same = ap length m.text in
     record { small = omega (arith, short, same); room = omega (arith, few); }
 
-pub find_start-requires : goal.find_start-requires
-find_start-requires g c =
-    let k = c.in_ok-outline.ensures in
-    let m = c.new-naming.ensures in
-    short_text g.K.Kind.meant g.K.Kind.wide c.args.text.now c.in_ok-outline.outline k.0 k.1 k.2 c.new-naming.result m.text m.names m.labels
-
 pub returns : goal.returns
 returns g c =
     let text = c.args.text.now in

@@ -1,5 +1,5 @@
 -- A number read digit by digit. Assumes nothing.
-use Rattle.std.proofs.Common.{◌≡◌, ℕ, zero, suc, ◌+◌, ◌-◌, ◌*◌, ◌^◌, ◌<◌, ◌≤◌, List, Some, None, Option, refl, sym, ap, ◌∙◌, not-suc-le-zero, arith}
+use Rattle.std.proofs.Common.{◌≡◌, ℕ, zero, suc, ◌+◌, ◌*◌, ◌^◌, ◌<◌, ◌≤◌, List, Some, None, Option, refl, sym, ap, ◌∙◌, not-suc-le-zero, arith}
 use Rattle.rows.specs.Entries.{digit_of, decimal}
 
 abbrev then : Option ℕ → ℕ → (ℕ → ℕ) → ℕ

@@ -1,5 +1,5 @@
 -- A line has no more symbols than characters. Assumes nothing.
-use Rattle.std.proofs.Common.{◌≡◌, ℕ, ◌+◌, ◌≤◌, Bool, true, false, cond, List, [], ◌∷◌, ◌++◌, length, Some, None, Ok, Err, Option, Result, sym, refl, ap, ◌∙◌, subst, arith}
+use Rattle.std.proofs.Common.{◌≡◌, ℕ, ◌+◌, ◌≤◌, Bool, true, false, cond, List, [], ◌∷◌, length, Some, None, Ok, Err, Option, Result, refl, arith}
 use Rattle.std.specs.List.{flat_map}
 use Rattle.std.proofs.lemmas.List.{length-append}
 use Rattle.lines.specs.declared.reading.Reading.{Reading}
@@ -12,7 +12,6 @@ use Rattle.lines.specs.Tokens.{token, extend, runs, tokens_from, tokens}
 use Rattle.symbols.specs.declared.fault.TextFault.{TextFault}
 use Rattle.constants.specs.Constants.{token_symbols, line_symbols}
 use Rattle.constants.proofs.Counts.{token_count}
-use Rattle.sheets.specs.declared.part.Part.{Part}
 use Rattle.sheets.specs.Items.{contents}
 use Rattle.sheets.specs.Parts.{part_of}
 use Rattle.sheets.specs.Tallies.{counts, is_literal, literal, symbols_added}

@@ -38,7 +38,12 @@ fn number_of(text: &[u8], parts: &[Part], word: &[u8]) -> usize
     ensures { result ≡ numbered (position word.now (map (part_of text.now) parts.now)) }
 {
     let place = find_word(text, parts, word);
-    place.map_or(0, |place| requires { place < 2 ^ 63 } { place + 1 })
+    place.map_or(
+        0,
+        |place|
+            requires { place < 2 ^ 63 }
+        { place + 1 },
+    )
 }
 
 // Whether `/` stands at a place.

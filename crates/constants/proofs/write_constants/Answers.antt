@@ -24,8 +24,7 @@ pub loop-line-preserved : goal.loop-line-preserved
 loop-line-preserved g c =
     let room : length (sheet_symbols g.K.Kind.meant g.K.Kind.wide c.args.text.now) ≤ length c.loop-line.area = omega arith in
     let cut = c.in-Some.ensures.steps in
-    let s = line_step g.K.Kind.meant g.K.Kind.wide c.loop-line.line-iterator c.in-Some.line c.next.new.self cut _ c.loop-line.count c.loop-line.area c.loop-line.invariant.1 room in
-    (
+    let s = line_step g.K.Kind.meant g.K.Kind.wide c.loop-line.line-iterator c.in-Some.line c.next.new.self cut _ c.loop-line.count c.loop-line.area c.loop-line.invariant.1 room in (
       cut.same ∙ c.loop-line.invariant.0,
       s.count c.write_line-count.result c.write_line-count.ensures.value,
       c.loop-line.invariant.2 ∙ s.left c.write_line-count.result c.write_line-count.new.area c.write_line-count.ensures.value c.write_line-count.ensures.area,

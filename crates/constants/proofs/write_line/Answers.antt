@@ -26,8 +26,7 @@ loop-lexeme-preserved g c =
     let room : length (line_symbols g.K.Kind.meant g.K.Kind.wide c.args.line.now) ≤ length c.loop-lexeme.area = omega arith in
     let read = c.in-Some.ensures.steps in
     let same = c.loop-lexeme.invariant.0 in
-    let s = token_step g.K.Kind.meant g.K.Kind.wide c.args.line.now c.loop-lexeme.lexeme-iterator same c.in-Some.lexeme c.next.new.self read _ c.loop-lexeme.count c.loop-lexeme.area c.loop-lexeme.invariant.1 room in
-    (
+    let s = token_step g.K.Kind.meant g.K.Kind.wide c.args.line.now c.loop-lexeme.lexeme-iterator same c.in-Some.lexeme c.next.new.self read _ c.loop-lexeme.count c.loop-lexeme.area c.loop-lexeme.invariant.1 room in (
       read.same ∙ same,
       s.count c.write_token-count.result c.write_token-count.ensures.value,
       c.loop-lexeme.invariant.2 ∙ s.left c.write_token-count.result c.write_token-count.new.area c.write_token-count.ensures.value c.write_token-count.ensures.area,

@@ -30,7 +30,7 @@ write_constants-requires g c =
     let few = few_symbols g.K.Kind.meant g.K.Kind.wide c.args.text.now o k.0 k.1 k.2 in
     let short = short_text g.K.Kind.meant g.K.Kind.wide c.args.text.now o k.0 k.1 k.2 c.new-naming.result m.text m.names m.labels in
     let same = ap length m.text in
-    record { small = omega (arith, short, same); room = omega (arith, few); }
+    record { small = omega (arith, short, same); room = omega (arith, few) }
 
 pub returns : goal.returns
 returns g c =

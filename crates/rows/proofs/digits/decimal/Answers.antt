@@ -1,4 +1,4 @@
-use Rattle.std.proofs.Common.{◌≡◌, ◌+◌, ◌-◌, ◌≤◌, sym, ap, ◌∙◌, arith}
+use Rattle.std.proofs.Common.{◌≡◌, ◌+◌, ◌-◌, sym, ap, ◌∙◌, arith}
 use Rattle.rows.proofs.Decimals.{most_small, most_more, read_on, read_digit, read_stop, read_all, decimal_read}
 use Rattle.rows.proofs.digits.decimal.Goals as goal
 

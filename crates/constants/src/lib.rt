@@ -3,45 +3,36 @@
 
 ghost use Rattle.std.specs.Prelude.{◌≡◌, ◌^◌, ◌<◌, ◌≤◌, length};
 ghost use Rattle.symbols.specs.Answers.{over};
-ghost use Rattle.sheets.specs.Items.{Inside};
 ghost use Rattle.sheets.specs.Tallies.{is_literal};
 ghost use Rattle.constants.specs.Constants.{token_symbols, line_symbols, sheet_symbols};
 
-use lines::reading::{LabelReading, Reading};
-use lines::token::{Token, token_at};
+use lines::lexeme::Lexeme;
+use lines::text::Lines;
+use lines::tokens::Tokens;
 use sheets::item::{Sort, contents, is_closed, sort_of};
 use sheets::part::part_of;
-use sheets::reader::line_end;
 use symbols::kind::Kind;
 use symbols::text::read_text;
 
 // Whether a token is a literal that has both its quotes.
-fn is_literal(line: &[u8], token: Token) -> bool
-    requires inside { Inside line.now token }
-    requires small { length line.now < 2 ^ 32 }
-    ensures { result ≡ is_literal line.now token }
+fn is_literal(lexeme: Lexeme<'_>) -> bool
+    requires { length lexeme.line.now < 2 ^ 32 }
+    ensures { result ≡ is_literal lexeme.entry.line.now lexeme.entry.token }
 {
-    let Sort::Literal = sort_of(token.role) else {
-        return false;
-    };
-    is_closed(line, token)
+    matches!(sort_of(lexeme.token.role), Sort::Literal) && is_closed(lexeme.line, lexeme.token)
 }
 
 // Writes the symbols of a token to the front of an area; how many they are.
-fn write_token<K: Kind>(kind: &K, line: &[u8], token: Token, area: &mut [K::Symbol]) -> usize
-    requires inside { Inside line.now token }
-    requires small { length line.now < 2 ^ 32 }
-    requires room { length (token_symbols K.Kind.meant K.Kind.WIDTH line.now token) ≤ length area.old }
-    ensures value { result ≡ length (token_symbols K.Kind.meant K.Kind.WIDTH line.now token) }
-    ensures area { area.new ≡ over (token_symbols K.Kind.meant K.Kind.WIDTH line.now token) area.old }
+fn write_token<K: Kind>(kind: &K, lexeme: Lexeme<'_>, area: &mut [K::Symbol]) -> usize
+    requires small { length lexeme.line.now < 2 ^ 32 }
+    requires room { length (token_symbols K.Kind.meant K.Kind.WIDTH lexeme.line.now lexeme.token) ≤ length area.old }
+    ensures value { result ≡ length (token_symbols K.Kind.meant K.Kind.WIDTH lexeme.entry.line.now lexeme.entry.token) }
+    ensures area { area.new ≡ over (token_symbols K.Kind.meant K.Kind.WIDTH lexeme.entry.line.now lexeme.entry.token) area.old }
 {
-    if !is_literal(line, token) {
+    if !is_literal(lexeme) {
         return 0;
     }
-    match read_text(kind, part_of(line, contents(token)), area) {
-        Ok(count) => count,
-        Err(_) => 0,
-    }
+    read_text(kind, part_of(lexeme.line, contents(lexeme.token)), area).unwrap_or(0)
 }
 
 // Writes the symbols of a line's literals to the front of an area; how many they are.
@@ -52,12 +43,8 @@ fn write_line<K: Kind>(kind: &K, line: &[u8], area: &mut [K::Symbol]) -> usize
     ensures area { area.new ≡ over (line_symbols K.Kind.meant K.Kind.WIDTH line.now) area.old }
 {
     let mut count = 0;
-    let mut at = 0;
-    let mut reading = Reading::Label(LabelReading::Begin);
-    while let Some(taken) = token_at(line, at, reading) {
-        count += write_token(kind, line, taken.token, &mut area[count..]);
-        at += taken.token.size;
-        reading = taken.reading;
+    for lexeme in Tokens::of(line) {
+        count += write_token(kind, lexeme, &mut area[count..]);
     }
     count
 }
@@ -70,11 +57,8 @@ pub fn write_constants<K: Kind>(kind: &K, text: &[u8], area: &mut [K::Symbol]) -
     ensures area { area.new ≡ over (sheet_symbols K.Kind.meant K.Kind.WIDTH text.now) area.old }
 {
     let mut count = 0;
-    let mut from = 0;
-    while from < text.len() {
-        let end = line_end(text, from);
-        count += write_line(kind, &text[from..end], &mut area[count..]);
-        from = end + 1;
+    for line in Lines::of(text) {
+        count += write_line(kind, line.characters, &mut area[count..]);
     }
     count
 }

@@ -1,11 +1,11 @@
 -- The label to start at, looked for token by token and line by line. Assumes nothing.
-use Rattle.std.proofs.Common.{◌≡◌, ℕ, ◌+◌, ◌-◌, ◌<◌, ◌≤◌, List, [], ◌∷◌, length, take, drop, Some, None, Option, sym, refl, ap, ◌∙◌}
-use Rattle.lines.specs.declared.reading.Reading.{Reading}
-use Rattle.lines.specs.declared.token.Taken.{Taken}
+use Rattle.std.proofs.Common.{◌≡◌, ℕ, List, [], ◌∷◌, Some, None, Option, sym, refl, ap, ◌∙◌}
+use Rattle.lines.specs.declared.lexeme.Lexeme.{Lexeme}
+use Rattle.lines.specs.declared.placed.Line.{Line}
+use Rattle.lines.specs.declared.text.Lines.{Lines}
 use Rattle.lines.specs.declared.token.Token.{Token}
-use Rattle.lines.specs.Tokens.{tokens_from, Took}
-use Rattle.sheets.specs.Sheets.{lines_of, line_length}
-use Rattle.sheets.proofs.Cuts.{lines_at, lines_end}
+use Rattle.lines.specs.declared.tokens.Tokens.{Tokens}
+use Rattle.lines.specs.Walks.{tokens_left, lines_left, Read, Cut}
 use Rattle.tables.specs.declared.row.Next.{Next}
 use Rattle.rows.specs.Givens.{or, else, last_given}
 use Rattle.load.specs.Starts.{token_start, line_start}
@@ -23,26 +23,26 @@ last_none : {A B : Type 0} (f : A → Option B) (d : B) (xs : List A) → xs ≡
 unfolding last_given
 last_none f d xs e = ap (λ (ys : List _). else d (last_given f ys)) e
 
-module _ (labels : List (List ℕ)) (s : List ℕ) (q : Reading) (k : ℕ) (all n : Next)
-    (inv : all ≡ else n (last_given (token_start labels s) (tokens_from q k (drop k s)))) where
-  pub token_on : (t : Taken) → Took s k q t → (m : Next) → m ≡ else n (token_start labels s t.token)
-      → all ≡ else m (last_given (token_start labels s) (tokens_from t.reading (k + t.token.size) (drop (k + t.token.size) s)))
-  token_on t took m e =
-      inv ∙ ap (λ (ts : List Token). else n (last_given (token_start labels s) ts)) took.rest
-      ∙ last_more (token_start labels s) n t.token (tokens_from t.reading (k + t.token.size) (drop (k + t.token.size) s))
-      ∙ ap (λ (x : Next). else x (last_given (token_start labels s) (tokens_from t.reading (k + t.token.size) (drop (k + t.token.size) s)))) (sym e)
+module _ (labels : List (List ℕ)) (s : List ℕ) (q : Tokens) (same : q.line.now ≡ s) (all n : Next)
+    (inv : all ≡ else n (last_given (token_start labels s) (tokens_left q))) where
+  pub token_on : (x : Lexeme) (t : Tokens) → Read q x t → (m : Next) → m ≡ else n (token_start labels x.line.now x.token)
+      → all ≡ else m (last_given (token_start labels s) (tokens_left t))
+  token_on x t read m e =
+      inv ∙ ap (λ (ts : List Token). else n (last_given (token_start labels s) ts)) read.token
+      ∙ last_more (token_start labels s) n x.token (tokens_left t)
+      ∙ ap (λ (y : Next). else y (last_given (token_start labels s) (tokens_left t)))
+      (sym (e ∙ ap (λ (l : List ℕ). else n (token_start labels l x.token)) (read.line ∙ same)))
 
-  pub tokens_done : tokens_from q k (drop k s) ≡ [] → n ≡ all
-  tokens_done e = sym (inv ∙ last_none (token_start labels s) n (tokens_from q k (drop k s)) e)
+  pub tokens_done : tokens_left q ≡ [] → n ≡ all
+  tokens_done e = sym (inv ∙ last_none (token_start labels s) n (tokens_left q) e)
 
-module _ (labels : List (List ℕ)) (text : List ℕ) (i : ℕ) (all n : Next) (inv : all ≡ else n (last_given (line_start labels) (lines_of (drop i text)))) where
-  pub line_on : (e : ℕ) → i < length text → i ≤ e → e - i ≡ line_length (drop i text) → (m : Next)
-      → m ≡ else n (line_start labels (take (e - i) (drop i text)))
-      → all ≡ else m (last_given (line_start labels) (lines_of (drop (e + 1) text)))
-  line_on e h up l m p =
-      inv ∙ ap (λ (ls : List (List ℕ)). else n (last_given (line_start labels) ls)) (lines_at text i e h up l)
-      ∙ last_more (line_start labels) n (take (e - i) (drop i text)) (lines_of (drop (e + 1) text))
-      ∙ ap (λ (x : Next). else x (last_given (line_start labels) (lines_of (drop (e + 1) text)))) (sym p)
+module _ (labels : List (List ℕ)) (q : Lines) (all n : Next) (inv : all ≡ else n (last_given (line_start labels) (lines_left q))) where
+  pub line_on : (x : Line) (t : Lines) → Cut q x t → (m : Next) → m ≡ else n (line_start labels x.characters.now)
+      → all ≡ else m (last_given (line_start labels) (lines_left t))
+  line_on x t cut m e =
+      inv ∙ ap (λ (ls : List (List ℕ)). else n (last_given (line_start labels) ls)) cut.line
+      ∙ last_more (line_start labels) n x.characters.now (lines_left t)
+      ∙ ap (λ (y : Next). else y (last_given (line_start labels) (lines_left t))) (sym e)
 
-  pub lines_done : length text ≤ i → n ≡ all
-  lines_done h = sym (inv ∙ last_none (line_start labels) n (lines_of (drop i text)) (lines_end text i h))
+  pub lines_done : lines_left q ≡ [] → n ≡ all
+  lines_done e = sym (inv ∙ last_none (line_start labels) n (lines_left q) e)

@@ -1,3 +1,4 @@
+pub mod Decimals
 pub mod Filling
 pub mod Fills
 pub mod Loads

@@ -1,11 +1,12 @@
 -- The row of a line, token by token. Assumes nothing.
-use Rattle.std.proofs.Common.{◌≡◌, ℕ, ◌+◌, List, [], ◌∷◌, length, drop, Some, None, Option, sym, refl, ap, ◌∙◌, arith}
+use Rattle.std.proofs.Common.{◌≡◌, ℕ, ◌+◌, List, [], ◌∷◌, length, Some, None, Option, sym, refl, ap, ◌∙◌, arith}
 use Rattle.std.proofs.lemmas.List.{length-append}
 use Rattle.std.specs.List.{flat_map}
-use Rattle.lines.specs.declared.reading.Reading.{Reading}
-use Rattle.lines.specs.declared.token.Taken.{Taken}
+use Rattle.lines.specs.declared.lexeme.Lexeme.{Lexeme}
 use Rattle.lines.specs.declared.token.Token.{Token}
-use Rattle.lines.specs.Tokens.{tokens, tokens_from, Took}
+use Rattle.lines.specs.declared.tokens.Tokens.{Tokens}
+use Rattle.lines.specs.Tokens.{tokens}
+use Rattle.lines.specs.Walks.{tokens_left, Read}
 use Rattle.constants.specs.Constants.{token_symbols}
 use Rattle.tables.specs.declared.row.Operand.{Operand}
 use Rattle.tables.specs.declared.row.RowOf.{RowOf}
@@ -31,38 +32,37 @@ module _ {L X : Type 0} (labelled : ℕ → List ℕ → Token → L) (meant : L
   abbrev pub symbols_with : ℕ → List Token → ℕ
   symbols_with at ts = at + length (flat_map (token_symbols meant wide s) ts)
 
-  module _ (q : Reading) (k : ℕ) (r : RowOf L) (at : ℕ) where
-    abbrev rest : List Token
-    rest = tokens_from q k (drop k s)
+  module _ (q : Tokens) (same : q.line.now ≡ s) (r : RowOf L) (at : ℕ) where
+    module _ (x : Lexeme) (t : Tokens) (read : Read q x t) (n : ℕ) (ne : n ≡ length (token_symbols meant wide x.line.now x.token)) where
+      symbols_here : n ≡ length (token_symbols meant wide s x.token)
+      symbols_here = ne ∙ ap (λ (l : List ℕ). length (token_symbols meant wide l x.token)) (read.line ∙ same)
 
-    module _ (t : Taken) (took : Took s k q t) (n : ℕ) (ne : n ≡ length (token_symbols meant wide s t.token)) where
-      abbrev beyond : List Token
-      beyond = tokens_from t.reading (k + t.token.size) (drop (k + t.token.size) s)
+      abbrev given_by : List ℕ → ℕ → Option (Entry L)
+      given_by l m = entry_of labelled names labels from l x.token (Operand.Literal at (at + m))
 
-      abbrev given_by : ℕ → Option (Entry L)
-      given_by m = entry_of labelled names labels from s t.token (Operand.Literal at (at + m))
-
-      pub row_on : (all r' : RowOf L) → all ≡ filled_from r at rest → r' ≡ with_given r (given_by n) → all ≡ filled_from r' (at + n) beyond
+      pub row_on : (all r' : RowOf L) → all ≡ filled_from r at (tokens_left q) → r' ≡ with_given r (given_by x.line.now n) → all ≡ filled_from r' (at + n) (tokens_left t)
       unfolding entries_from
       row_on all r' inv e =
-          let m : ℕ = length (token_symbols meant wide s t.token) in
-          inv ∙ ap (filled_from r at) took.rest
-          ∙ front r (given_by m) (entries_from labelled names labels from s meant wide (at + m) beyond)
-          ∙ ap (λ (i : ℕ). filled_from (with_given r (given_by i)) (at + i) beyond) (sym ne)
-          ∙ ap (λ (x : RowOf L). filled_from x (at + n) beyond) (sym e)
+          let m : ℕ = length (token_symbols meant wide s x.token) in
+          inv ∙ ap (filled_from r at) read.token
+          ∙ front r (given_by s m) (entries_from labelled names labels from s meant wide (at + m) (tokens_left t))
+          ∙ ap (λ (i : ℕ). filled_from (with_given r (given_by s i)) (at + i) (tokens_left t)) (sym symbols_here)
+          ∙ ap (λ (l : List ℕ). filled_from (with_given r (given_by l n)) (at + n) (tokens_left t)) (sym (read.line ∙ same))
+          ∙ ap (λ (y : RowOf L). filled_from y (at + n) (tokens_left t)) (sym e)
 
-      pub symbols_on : (all : ℕ) → all ≡ symbols_with at rest → all ≡ symbols_with (at + n) beyond
+      pub symbols_on : (all : ℕ) → all ≡ symbols_with at (tokens_left q) → all ≡ symbols_with (at + n) (tokens_left t)
       symbols_on all inv =
-          let l = length-append (token_symbols meant wide s t.token) (flat_map (token_symbols meant wide s) beyond) in
-          let e : symbols_with at (t.token ∷ beyond) ≡ symbols_with (at + n) beyond = omega (arith, l, ne) in
-          inv ∙ ap (symbols_with at) took.rest ∙ e
+          let l = length-append (token_symbols meant wide s x.token) (flat_map (token_symbols meant wide s) (tokens_left t)) in
+          let h = symbols_here in
+          let e : symbols_with at (x.token ∷ tokens_left t) ≡ symbols_with (at + n) (tokens_left t) = omega (arith, l, h) in
+          inv ∙ ap (symbols_with at) read.token ∙ e
 
-    pub row_end : (start : ℕ) → filled_from (row_of []) start (tokens s) ≡ filled_from r at rest → rest ≡ []
+    pub row_end : (start : ℕ) → filled_from (row_of []) start (tokens s) ≡ filled_from r at (tokens_left q) → tokens_left q ≡ []
         → r ≡ line_row labelled meant wide names labels from start s
     unfolding filled_with entries_from
     row_end start inv e =
         sym (inv ∙ ap (filled_from r at) e)
         ∙ row_told (entries_from labelled names labels from s meant wide start (tokens s)) (line_ordered labelled meant wide names labels from s start)
 
-    pub symbols_end : (all : ℕ) → all ≡ symbols_with at rest → rest ≡ [] → at ≡ all
+    pub symbols_end : (all : ℕ) → all ≡ symbols_with at (tokens_left q) → tokens_left q ≡ [] → at ≡ all
     symbols_end all inv e = let z : at ≡ at + 0 = omega arith in z ∙ sym (inv ∙ ap (symbols_with at) e)

@@ -13,22 +13,17 @@ fn digit_of(line: &[u8], at: usize) -> Option<usize>
     }
 }
 
-// The number that one to four digits from a place on write.
+// The number that the digits at a place write, of which four count.
 pub fn decimal(line: &[u8], at: usize) -> usize
     requires { at < 2 ^ 34 }
     ensures { result ≡ decimal line.now at }
 {
-    let Some(a) = digit_of(line, at) else {
-        return 0;
-    };
-    let Some(b) = digit_of(line, at + 1) else {
-        return a;
-    };
-    let Some(c) = digit_of(line, at + 2) else {
-        return a * 10 + b;
-    };
-    let Some(d) = digit_of(line, at + 3) else {
-        return a * 100 + b * 10 + c;
-    };
-    a * 1000 + b * 100 + c * 10 + d
+    let mut number = 0;
+    for place in at..at + 4 {
+        let Some(digit) = digit_of(line, place) else {
+            break;
+        };
+        number = number * 10 + digit;
+    }
+    number
 }

@@ -1,14 +1,15 @@
 // What the names and labels of a line stand for.
-ghost use Rattle.std.specs.Prelude.{◌≡◌, ◌^◌, ◌<◌, length};
-ghost use Rattle.rows.specs.Entries.{slash_at, form_at, variable, target_of, entry_of, name_number, reference_of, destination};
+ghost use Rattle.std.specs.Prelude.{◌≡◌, ◌^◌, ◌<◌, map, length};
+ghost use Rattle.rows.specs.Entries.{numbered, slash_at, form_at, variable, target_of, entry_of, name_number, reference_of, destination};
 ghost use Rattle.rows.specs.Namings.{names_of, labels_of};
-ghost use Rattle.sheets.specs.Items.{Inside};
 ghost use Rattle.sheets.specs.Labels.{token_text};
 ghost use Rattle.sheets.specs.LineFaults.{carried, Limited};
+ghost use Rattle.sheets.specs.Parts.{part_of, position};
 
 use crate::digits::decimal;
 use crate::entry::Entry;
 use crate::label::Label;
+use lines::lexeme::Lexeme;
 use lines::role::Role;
 use lines::token::Token;
 use sheets::item::{is_indirect, word};
@@ -25,15 +26,23 @@ pub struct Naming<'a> {
 }
 
 // The characters of a token.
-pub fn token_text(line: &[u8], token: Token) -> &[u8]
-    ensures { result.now ≡ token_text line.now token }
+pub fn token_text(lexeme: Lexeme<'_>) -> &[u8]
+    ensures { result.now ≡ token_text lexeme.entry.line.now lexeme.entry.token }
 {
-    part_of(
-        line,
-        Part {
-            start: token.start,
-            size: token.size,
-        },
+    let Token { start, size, .. } = lexeme.token;
+    part_of(lexeme.line, Part { start, size })
+}
+
+// The number of the first part that spells the word, counted from 1; 0 where none does.
+fn number_of(text: &[u8], parts: &[Part], word: &[u8]) -> usize
+    ensures { result ≡ numbered (position word.now (map (part_of text.now) parts.now)) }
+{
+    let place = find_word(text, parts, word);
+    place.map_or(
+        0,
+        |place|
+            requires { place < 2 ^ 63 }
+        { place + 1 },
     )
 }
 
@@ -41,7 +50,7 @@ pub fn token_text(line: &[u8], token: Token) -> &[u8]
 fn slash_at(line: &[u8], at: usize) -> bool
     ensures { result ≡ slash_at line.now at }
 {
-    at < line.len() && line[at] == b'/'
+    line.get(at).is_some_and(|c| *c == b'/')
 }
 
 // A variable whose name ends at a place: arbitrary, or of the fixed length that `/` and a quote precede.
@@ -72,24 +81,20 @@ impl<'a> Naming<'a> {
     }
 
     // The name's number, counted from 1, 0 where it is no name of the sheet.
-    fn name_number(&self, line: &[u8], token: Token) -> usize
-        requires inside { Inside line.now token }
-        requires small { length line.now < 2 ^ 32 }
-        ensures { result ≡ name_number (names_of self.now) line.now token }
+    fn name_number(&self, lexeme: Lexeme<'_>) -> usize
+        requires { length lexeme.line.now < 2 ^ 32 }
+        ensures { result ≡ name_number (names_of self.now) lexeme.entry.line.now lexeme.entry.token }
     {
-        match find_word(self.text, self.names, part_of(line, word(line, token))) {
-            Some(place) => place + 1,
-            None => 0,
-        }
+        let name = part_of(lexeme.line, word(lexeme.line, lexeme.token));
+        number_of(self.text, self.names, name)
     }
 
-    fn reference_of(&self, line: &[u8], token: Token) -> Reference
-        requires inside { Inside line.now token }
-        requires small { length line.now < 2 ^ 32 }
-        ensures { result ≡ reference_of (names_of self.now) line.now token }
+    fn reference_of(&self, lexeme: Lexeme<'_>) -> Reference
+        requires { length lexeme.line.now < 2 ^ 32 }
+        ensures { result ≡ reference_of (names_of self.now) lexeme.entry.line.now lexeme.entry.token }
     {
-        let number = self.name_number(line, token);
-        if is_indirect(line, token) {
+        let number = self.name_number(lexeme);
+        if is_indirect(lexeme.line, lexeme.token) {
             Reference::Through(number)
         } else {
             Reference::Named(number)
@@ -103,72 +108,64 @@ impl<'a> Naming<'a> {
         if same_text(label, b"END") {
             return Next::End;
         }
-        match find_word(self.text, self.labels, label) {
-            Some(place) => Next::Statement(place + 1),
-            None => Next::Statement(0),
-        }
+        Next::Statement(number_of(self.text, self.labels, label))
     }
 
-    fn variable_of(&self, line: &[u8], token: Token, form: Form) -> Item
-        requires inside { Inside line.now token }
-        requires small { length line.now < 2 ^ 32 }
-        ensures { result ≡ variable (name_number (names_of self.now) line.now token) form }
+    fn variable_of(&self, lexeme: Lexeme<'_>, form: Form) -> Item
+        requires { length lexeme.line.now < 2 ^ 32 }
+        ensures { result ≡ variable (name_number (names_of self.now) lexeme.entry.line.now lexeme.entry.token) form }
     {
         Item::Variable(Variable {
-            name: self.name_number(line, token),
+            name: self.name_number(lexeme),
             form,
         })
     }
 
-    fn contents_of(&self, line: &[u8], token: Token) -> Operand
-        requires inside { Inside line.now token }
-        requires small { length line.now < 2 ^ 32 }
-        ensures { result ≡ Operand.Contents (reference_of (names_of self.now) line.now token) }
+    fn contents_of(&self, lexeme: Lexeme<'_>) -> Operand
+        requires { length lexeme.line.now < 2 ^ 32 }
+        ensures { result ≡ Operand.Contents (reference_of (names_of self.now) lexeme.entry.line.now lexeme.entry.token) }
     {
-        Operand::Contents(self.reference_of(line, token))
+        Operand::Contents(self.reference_of(lexeme))
     }
 
     // Where a go-to leads.
-    fn target_of(&self, line: &[u8], token: Token) -> Target
-        requires inside { Inside line.now token }
-        requires small { length line.now < 2 ^ 32 }
-        ensures { result ≡ target_of (names_of self.now) (labels_of self.now) line.now token }
+    fn target_of(&self, lexeme: Lexeme<'_>) -> Target
+        requires { length lexeme.line.now < 2 ^ 32 }
+        ensures { result ≡ target_of (names_of self.now) (labels_of self.now) lexeme.entry.line.now lexeme.entry.token }
     {
-        if is_indirect(line, token) {
-            return Target::Through(self.name_number(line, token));
+        if is_indirect(lexeme.line, lexeme.token) {
+            return Target::Through(self.name_number(lexeme));
         }
-        Target::To(self.destination(token_text(line, token)))
+        Target::To(self.destination(token_text(lexeme)))
     }
 
     // What a token gives, if anything; a literal is the part `constant` of the constants, and the line begins at `from`.
     pub(crate) fn entry_of<L: Label>(
         &self,
         from: usize,
-        line: &[u8],
-        token: Token,
+        lexeme: Lexeme<'_>,
         constant: Operand,
     ) -> Option<Entry<L>>
-        requires inside { Inside line.now token }
-        requires small { length line.now < 2 ^ 32 }
+        requires small { length lexeme.line.now < 2 ^ 32 }
         requires place { from < 2 ^ 32 }
-        ensures { result ≡ entry_of L.Label.labelled (names_of self.now) (labels_of self.now) from line.now token constant }
+        ensures { result ≡ entry_of L.Label.labelled (names_of self.now) (labels_of self.now) from lexeme.entry.line.now lexeme.entry.token constant }
     {
-        Some(match token.role {
-            Role::Label => Entry::Label(L::of(from, line, token)),
-            Role::Reference => Entry::Reference(self.reference_of(line, token)),
-            Role::Element => Entry::Element(Item::Operand(self.contents_of(line, token))),
+        Some(match lexeme.token.role {
+            Role::Label => Entry::Label(L::of(from, lexeme)),
+            Role::Reference => Entry::Reference(self.reference_of(lexeme)),
+            Role::Element => Entry::Element(Item::Operand(self.contents_of(lexeme))),
             Role::LiteralElement => Entry::Element(Item::Operand(constant)),
             Role::Variable => {
-                let form = form_at(line, token.start + token.size);
-                Entry::Element(self.variable_of(line, token, form))
+                let form = form_at(lexeme.line, lexeme.token.start + lexeme.token.size);
+                Entry::Element(self.variable_of(lexeme, form))
             }
-            Role::Group => Entry::Element(self.variable_of(line, token, Form::Balanced)),
+            Role::Group => Entry::Element(self.variable_of(lexeme, Form::Balanced)),
             Role::Equal => Entry::Equal,
-            Role::Operand => Entry::Operand(self.contents_of(line, token)),
+            Role::Operand => Entry::Operand(self.contents_of(lexeme)),
             Role::LiteralOperand => Entry::Operand(constant),
-            Role::Both => Entry::Both(self.target_of(line, token)),
-            Role::OnS => Entry::OnS(self.target_of(line, token)),
-            Role::OnF => Entry::OnF(self.target_of(line, token)),
+            Role::Both => Entry::Both(self.target_of(lexeme)),
+            Role::OnS => Entry::OnS(self.target_of(lexeme)),
+            Role::OnF => Entry::OnF(self.target_of(lexeme)),
             Role::Between | Role::Start | Role::Star | Role::Length => return None,
         })
     }

@@ -9,8 +9,8 @@ use crate::label::Label;
 use crate::line::read_row;
 use crate::naming::Naming;
 use lines::line::is_idle;
+use lines::text::Lines;
 use sheets::check::labelled_end;
-use sheets::reader::line_end;
 use symbols::kind::Kind;
 use tables::row::RowOf;
 
@@ -41,16 +41,12 @@ pub fn write_rows<K: Kind, L: Label>(kind: &K, naming: &Naming, rows: &mut [RowO
     ensures value { result ≡ length (rows_from L.Label.labelled K.Kind.meant K.Kind.WIDTH (names_of naming.now) (labels_of naming.now) 0 0 (lines_of naming.now.text.now)) }
     ensures rows { rows.new ≡ over (rows_from L.Label.labelled K.Kind.meant K.Kind.WIDTH (names_of naming.now) (labels_of naming.now) 0 0 (lines_of naming.now.text.now)) rows.old }
 {
-    let mut from = 0;
     let mut stored = 0;
     let mut count = 0;
-    while from < naming.text.len() {
-        let end = line_end(naming.text, from);
-        let line = &naming.text[from..end];
-        let filled = read_row(kind, naming, from, line, stored);
-        count = put_row(rows, count, line, filled.row);
+    for line in Lines::of(naming.text) {
+        let filled = read_row(kind, naming, line, stored);
+        count = put_row(rows, count, line.characters, filled.row);
         stored = filled.symbols;
-        from = end + 1;
     }
     count
 }

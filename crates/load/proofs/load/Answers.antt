@@ -30,13 +30,7 @@ write_constants-requires g c =
     let few = few_symbols g.K.Kind.meant g.K.Kind.WIDTH c.args.text.now o k.0 k.1 k.2 in
     let short = short_text g.K.Kind.meant g.K.Kind.WIDTH c.args.text.now o k.0 k.1 k.2 c.new-naming.result m.text m.names m.labels in
     let same = ap length m.text in
-    record { small = omega (arith, short, same); room = omega (arith, few); }
-
-pub find_start-requires : goal.find_start-requires
-find_start-requires g c =
-    let k = c.in_ok-outline.ensures in
-    let m = c.new-naming.ensures in
-    short_text g.K.Kind.meant g.K.Kind.WIDTH c.args.text.now c.in_ok-outline.outline k.0 k.1 k.2 c.new-naming.result m.text m.names m.labels
+    record { small = omega (arith, short, same); room = omega (arith, few) }
 
 pub returns : goal.returns
 returns g c =

@@ -1,19 +1,16 @@
-use Rattle.std.proofs.Common.{refl, arith}
+use Rattle.std.proofs.Common.{◌∙◌}
 use Rattle.rows.specs.Namings.{labels_of}
 use Rattle.load.proofs.StartLoops.{token_on, tokens_done}
 use Rattle.load.proofs.start.after_line.Goals as goal
 
-pub loop-taken-init : goal.loop-taken-init
-loop-taken-init c = (omega arith, refl)
-
-pub loop-taken-preserved : goal.loop-taken-preserved
-loop-taken-preserved c = (
-  c.in-Some.ensures.within,
-  token_on (labels_of c.args.naming.now) c.args.line.now c.loop-taken.reading c.loop-taken.at
-      _ c.loop-taken.start c.loop-taken.invariant.1 c.in-Some.taken c.in-Some.ensures c.after_token-start.result c.after_token-start.ensures,
-)
+pub loop-lexeme-preserved : goal.loop-lexeme-preserved
+loop-lexeme-preserved c =
+    let read = c.in-Some.ensures.steps in (
+      read.same ∙ c.loop-lexeme.invariant.0,
+      token_on (labels_of c.args.naming.now) c.args.line.now c.loop-lexeme.lexeme-iterator c.loop-lexeme.invariant.0 _ c.loop-lexeme.start c.loop-lexeme.invariant.1
+          c.in-Some.lexeme c.next.new.self read c.after_token-start.result c.after_token-start.ensures,
+    )
 
 pub returns : goal.returns
 returns c =
-    tokens_done (labels_of c.args.naming.now) c.args.line.now c.loop-taken.reading c.loop-taken.at
-    _ c.loop-taken.start c.loop-taken.invariant.1 c.in_default.ensures
+    tokens_done (labels_of c.args.naming.now) c.args.line.now c.loop-lexeme.lexeme-iterator c.loop-lexeme.invariant.0 _ c.loop-lexeme.start c.loop-lexeme.invariant.1 c.in-None.ensures.steps.0

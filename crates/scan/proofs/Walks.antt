@@ -1,13 +1,13 @@
 -- A walk from an opening symbol to the one that closes its group, and what a balanced part gains behind an end of it. Assumes nothing.
-use Rattle.std.proofs.Common.{◌≡◌, ℕ, zero, suc, ◌+◌, ◌-◌, ◌<◌, ◌≤◌, Bool, true, false, ◌&&◌, eqb, ltb, leb, ◌⊎◌, List, [], ◌∷◌, ◌++◌, length, get_or, take, drop, Some, None, Option, sym, refl, ap, ◌∙◌, subst, inl, inr, ⊎_elim, arith, take-add}
+use Rattle.std.proofs.Common.{◌≡◌, ℕ, zero, suc, ◌+◌, ◌-◌, ◌<◌, ◌≤◌, Bool, true, false, ◌&&◌, eqb, ltb, leb, List, [], ◌∷◌, ◌++◌, length, get_or, take, drop, Some, None, Option, sym, refl, ap, ◌∙◌, subst, ⊎_elim, arith, take-add}
 use Rattle.std.proofs.lemmas.List.{drop-drop}
-use Rattle.std.proofs.lemmas.Bool.{and_right, and_left, and_from, and_parts, false≢true, eqb-true, lt-leb, le-leb, lt-ltb, ne_eqb, eq-eqb, cases_lt}
+use Rattle.std.proofs.lemmas.Bool.{and_right, and_from, and_parts, false≢true, eqb-true, le-leb, lt-ltb, ne_eqb, eq-eqb, cases_lt}
 use Rattle.symbols.specs.declared.role.Role.{Role}
 use Rattle.symbols.specs.declared.role.Role.TheVariants.{Opening, Closing, Plain}
 use Rattle.placings.specs.Pattern.{part}
 use Rattle.placings.specs.Enumeration.{after, closes_from, balanced_test}
 use Rattle.scan.specs.Ends.{Next, balanced_end, group_end}
-use Rattle.scan.proofs.Parts.{length_part, part_none, part_more, next_like, next_from}
+use Rattle.scan.proofs.Parts.{length_part, part_none, part_more, next_like}
 
 -- how many are open after a symbol of a role, where d were
 abbrev pub Moves : Role → ℕ → ℕ → Type 0
@@ -82,9 +82,6 @@ module _ {A : Type 0} (role : A → Role) (s : List A) (a : ℕ) where
     begun : (k : ℕ) → a + 1 ≤ k → balanced_end role s a k ≡ after (role x) 0 (closes_from role (part s (a + 1) k))
     begun k l = ap (λ b. b && balanced_test role (part s a k)) (le-leb a k (omega arith)) ∙ ap (balanced_test role) (part_more s a k x (omega arith) h is) ∙ ap (λ b. b && after (role x) 0 (closes_from role (part s (a + 1) k))) (lt-ltb 0 (suc (length (part s (a + 1) k))) (omega arith))
 
-    pub balanced_plain : role x ≡ Plain → Next (balanced_end role s a) (length s) (a + 1) (Some (a + 1))
-    balanced_plain p = (omega arith, omega arith, begun (a + 1) (omega arith) ∙ rw (p, part_none s (a + 1)), λ k u v. absurd (omega arith))
-
     pub balanced_closing : role x ≡ Closing → Next (balanced_end role s a) (length s) (a + 1) None
     balanced_closing p = λ k u v. begun k u ∙ rw p
 
@@ -93,14 +90,6 @@ pub balanced_opening : {A : Type 0} (role : A → Role) (s : List A) (a : ℕ) (
 balanced_opening role s a x r h is p =
     next_like (group_end role s (a + 1)) (balanced_end role s a) (length s) (a + 1) r
     (λ k u v. begun role s a x h is k u ∙ rw p (sym (ap (λ b. b && closes_from role (part s (a + 1) k) 1) (le-leb (a + 1) k u))))
-
--- nothing balanced ends where it begins, or before
-pub balanced_first : {A : Type 0} (role : A → Role) (s : List A) (a : ℕ) (r : Option ℕ) → Next (balanced_end role s a) (length s) (a + 1) r → Next (balanced_end role s a) (length s) 0 r
-balanced_first role s a r = next_from (balanced_end role s a) (length s) 0 (a + 1) r (omega arith) (λ k u v. go k v (cases_lt k a))
-  where
-    go : (k : ℕ) → k < a + 1 → (k < a) ⊎ (a ≤ k) → balanced_end role s a k ≡ false
-    go k v (inl z) = and_left (leb a k) _ (lt-leb a k z)
-    go k v (inr z) = let q : a ≡ k = omega arith in rw (← q, part_none s a) (and_right (leb a a) false refl)
 
 -- what closes all that is open may be passed over
 passed_by : {A : Type 0} (role : A → Role) (r : Role) (d : ℕ) (f h : ℕ → Bool) (b : Bool) → ((e : ℕ) → f e ≡ true → h e ≡ b) → after r d f ≡ true → after r d h ≡ b

@@ -1,7 +1,7 @@
 use Rattle.std.proofs.Common.{◌+◌, ◌<◌, ◌≤◌, length, take, ap, ◌∙◌, arith}
 use mir.Facts.{Fits-below}
-use Rattle.std.proofs.lemmas.List.{length-take-le, take_all}
-use Rattle.placings.specs.Pattern.{openings, closings, opens, closes}
+use Rattle.std.proofs.lemmas.List.{length-take-le}
+use Rattle.placings.specs.Pattern.{opens, closes}
 use Rattle.scan.proofs.Blocks.{opens_one, closes_one, openings_more, closings_more, openings_few, closings_few}
 use Rattle.scan.proofs.balance.tally.Goals as goal
 
@@ -31,9 +31,3 @@ loop-symbol-preserved g c =
     let x = c.opening-opened.ensures ∙ ap opens c.role-role.ensures in
     let y = c.closing-closed.ensures ∙ ap closes c.role-role.ensures in
     (omega arith, omega arith)
-
-pub returns : goal.returns
-returns g c =
-    let role = g.K.Kind.acts c.args.kind.now in
-    let all = take_all c.loop-symbol.symbol-index c.args.block.now (omega arith) in
-    record { opened = c.loop-symbol.invariant.0 ∙ ap (openings role) all; closed = c.loop-symbol.invariant.1 ∙ ap (closings role) all }

@@ -21,9 +21,6 @@ returns-in_err-j-in-Back g c =
     let p = err_from_is_err_and c.from_residual.result c.from_residual.ensures.1 in
     rw (p.1, p.2) (walking_refused c.loop-end.invariant c.enter.result c.enter.new.row c.compared-other.ensures c.enter.ensures.end c.enter.ensures.after c.retreat.new.rows c.in-Back.ensures c.in_err-j-in-Back.field-0.0 c.in_err-j-in-Back.ensures)
 
-pub overflow_sub-result : goal.overflow_sub-result
-overflow_sub-result g c = c.loop-end.invariant.onward.fewer
-
 pub returns-in_default : goal.returns-in_default
 returns-in_default g c =
     walking_missed c.loop-end.invariant c.enter.result c.enter.new.row c.compared-other.ensures c.enter.ensures.end c.enter.ensures.after c.retreat.new.rows c.in-Back.ensures (walking_found c.loop-end.invariant c.enter.result c.enter.new.row c.compared-other.ensures c.enter.ensures.end c.enter.ensures.after c.retreat.new.rows _ _ c.in_default.is c.in_ok-j-in-Back.ensures)
@@ -45,9 +42,6 @@ loop-end-smaller g c = let h = walking_before c.loop-end.invariant c.enter.resul
 
 pub loop-end-preserved : goal.loop-end-preserved
 loop-end-preserved g c = walking_resumed c.loop-end.invariant c.enter.result c.enter.new.row c.compared-other.ensures c.enter.ensures.end c.enter.ensures.after c.retreat.new.rows c.in-Back.ensures c.in-Some.j c.in-Some.end (walking_found c.loop-end.invariant c.enter.result c.enter.new.row c.compared-other.ensures c.enter.ensures.end c.enter.ensures.after c.retreat.new.rows _ _ c.in-Some.is c.in_ok-j-in-Back.ensures)
-
-pub overflow_sub-result-in-Done-2 : goal.overflow_sub-result-in-Done-2
-overflow_sub-result-in-Done-2 g c = let h = c.loop-end.invariant.onward.fewer in omega arith
 
 pub returns-in-Done : goal.returns-in-Done
 returns-in-Done g c = walking_placed c.loop-end.invariant c.enter.result c.enter.new.row c.compared-other.ensures c.enter.ensures.end c.enter.ensures.after c.in-Done.ensures c.placing.result c.placing.ensures

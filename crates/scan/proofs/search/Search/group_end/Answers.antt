@@ -1,11 +1,8 @@
 use Rattle.std.proofs.Common.{◌+◌, ◌-◌, ◌<◌, get_or, sym, refl, ap, subst, arith}
 use Rattle.symbols.specs.declared.role.Role.TheVariants.{Opening, Closing, Plain}
 use Rattle.scan.proofs.Blocks.{walk_far}
-use Rattle.scan.proofs.Walks.{Walk, moves_by, walk_none, walk_more, walk_found, walk_all}
+use Rattle.scan.proofs.Walks.{Walk, moves_by, walk_more, walk_found}
 use Rattle.scan.proofs.search.Search.group_end.Goals as goal
-
-pub loop-e-init : goal.loop-e-init
-loop-e-init g c = walk_none _ _ _ (omega arith) (omega arith)
 
 pub returns-then-open-eq0 : goal.returns-then-open-eq0
 returns-then-open-eq0 g c =
@@ -24,9 +21,6 @@ loop-e-preserved-in-Opening g c =
 pub loop-e-preserved : goal.loop-e-preserved
 loop-e-preserved g c =
     walk_more _ _ _ _ _ _ _ c.loop-e-test.true (ap (get_or c.args.self.now.subject.now c.loop-e.e) c.index-self-e.is) (moves_by Plain _ _ _ (sym c.in-Plain.ensures) refl) c.loop-e.invariant (omega arith)
-
-pub returns : goal.returns
-returns g c = walk_all _ _ _ _ _ c.loop-e-test.false c.loop-e.invariant
 
 pub loop-e-preserved-then-n-e-ge-BLOCK : goal.loop-e-preserved-then-n-e-ge-BLOCK
 loop-e-preserved-then-n-e-ge-BLOCK g c =

@@ -4,9 +4,6 @@ use Rattle.scan.proofs.Parts.{length_part}
 use Rattle.scan.proofs.Blocks.{openings_few, closings_few}
 use Rattle.scan.proofs.search.Search.pass_block.Goals as goal
 
-pub tally-opened-requires : goal.tally-opened-requires
-tally-opened-requires g c = omega (arith, length_part c.args.self.now.subject.now c.args.from (c.args.from + 64) (omega arith) (omega arith))
-
 pub overflow_add-result : goal.overflow_add-result
 overflow_add-result g c =
     let few = openings_few (g.K.Kind.acts c.args.self.now.kind.now) (part c.args.self.now.subject.now c.args.from (c.args.from + 64)) in
@@ -20,10 +17,4 @@ overflow_sub-result g c =
     let few = closings_few (g.K.Kind.acts c.args.self.now.kind.now) (part c.args.self.now.subject.now c.args.from (c.args.from + 64)) in
     let long = length_part c.args.self.now.subject.now c.args.from (c.args.from + 64) (omega arith) (omega arith) in
     let is = c.tally-opened.ensures.closed in
-    omega arith
-
-pub returns : goal.returns
-returns g c =
-    let a = c.tally-opened.ensures.opened in
-    let b = c.tally-opened.ensures.closed in
     omega arith

@@ -1,11 +1,5 @@
-use Rattle.scan.proofs.Resuming.{returning_none, returning_all, returning_parted, returning_forward, returning_spent, returning_more}
+use Rattle.scan.proofs.Resuming.{returning_all, returning_forward, returning_spent, returning_more}
 use Rattle.scan.proofs.search.Search.retreat.Goals as goal
-
-pub loop-i-init : goal.loop-i-init
-loop-i-init g c = returning_none g.K.Kind.equal (g.K.Kind.acts c.args.self.now.kind.now) c.args.self.now.subject.now c.args.self.now.elements.now c.args.rows.now c.args.from c.requires c.args.self.now.few
-
-pub advance-requires : goal.advance-requires
-advance-requires g c = returning_parted c.loop-i.invariant c.loop-i-test.true
 
 pub returns-in-Forward : goal.returns-in-Forward
 returns-in-Forward g c = returning_forward c.loop-i.invariant c.loop-i-test.true c.args.left c.advance.result c.advance.new.row c.advance.ensures.end c.advance.ensures.after c.in-Forward.end c.in-Forward.ensures

@@ -1,4 +1,4 @@
-use Rattle.std.proofs.Common.{sym, ap, ◌∙◌}
+use Rattle.std.proofs.Common.{ap, ◌∙◌}
 use Rattle.tables.specs.Tables.{Tabled}
 use Rattle.statements.specs.Carried.{done_by, left_by}
 use Rattle.statements.specs.Settled.{names_of}

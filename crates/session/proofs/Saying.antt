@@ -19,7 +19,7 @@ use Rattle.tables.specs.Rows.{Row}
 use Rattle.tables.specs.declared.row.Target.{Target}
 use Rattle.tables.specs.declared.sheet.Tables.{Tables}
 use Rattle.tables.specs.Tables.{Tabled, tabled}
-use Rattle.patterns.specs.Gathered.{items_in}
+use Rattle.tables.specs.Rows.{items_in}
 use Rattle.patterns.specs.Meant.{meant}
 use Rattle.patterns.specs.Resolved.{resolved}
 use Rattle.changes.specs.Limits.{over_limits}

@@ -11,7 +11,7 @@ use Rattle.stores.specs.Names.{under}
 use Rattle.tables.specs.Rows.{Row}
 use Rattle.tables.specs.declared.sheet.Tables.{Tables}
 use Rattle.tables.specs.Tables.{tabled}
-use Rattle.patterns.specs.Gathered.{items_in}
+use Rattle.tables.specs.Rows.{items_in}
 use Rattle.patterns.specs.Meant.{meant}
 use Rattle.patterns.specs.Resolved.{resolved}
 use Rattle.statements.specs.Sought.{unscanned_success}

@@ -1,5 +1,5 @@
 -- The step of a session: the statement that is next, carried out. Assumes nothing.
-use Rattle.std.specs.Prelude.{ℕ, zero, suc, ◌*◌, Bool, cond, ◌&&◌, ◌||◌, List, [], ◌∷◌, Some, None, Ok, Err, Option, Result, nat_le, nat_lt, slice_get}
+use Rattle.std.specs.Prelude.{ℕ, zero, suc, ◌*◌, Bool, cond, ◌&&◌, ◌||◌, List, Some, None, Ok, Err, Option, Result, nat_le, nat_lt, slice_get}
 use Rattle.symbols.specs.declared.role.Role.{Role}
 use Rattle.scan.specs.declared.answer.Scanned.{Scanned}
 use Rattle.scan.specs.declared.answer.Verdict.{Verdict}

@@ -1,8 +1,11 @@
 // The step of a session: the statement that is next, carried out.
-ghost use Rattle.std.specs.Prelude.{◌≡◌, ◌≤◌, [], length};
+ghost use Rattle.std.specs.Prelude.{◌≡◌, ◌*◌, ◌≤◌, [], length};
 ghost use Rattle.symbols.specs.Answers.{answered};
-ghost use Rattle.statements.specs.Listed.{listed};
 ghost use Rattle.tables.specs.Tables.{tabled};
+ghost use Rattle.statements.specs.Carried.{done_by, left_by};
+ghost use Rattle.statements.specs.Listed.{Carriable};
+ghost use Rattle.statements.specs.Settled.{names_of};
+ghost use Rattle.statements.specs.Sought.{sought};
 ghost use Rattle.session.specs.Calls.{fits, unfit, full};
 ghost use Rattle.session.specs.Effects.{Leaves};
 ghost use Rattle.session.specs.Refusals.{first_of};
@@ -14,11 +17,14 @@ use crate::entry::{Entry, EntryKind};
 use crate::refusal::Refusal;
 use crate::session::Session;
 use checks::admit::admits;
+use placings::mode::Mode;
 use scan::answer::{Scanned, Verdict};
-use statements::carry::carry_out;
-use statements::listing::Listing;
+use statements::carry::{Done, carry_out};
+use statements::refusal::StatementRefusal;
+use statements::statement::Statement;
 use stores::store::Store;
 use symbols::kind::Kind;
+use tables::listing::Listing;
 use tables::places::first_places;
 use tables::row::Row;
 use tables::sheet::Tables;
@@ -31,22 +37,44 @@ pub struct Work {
     pub contents: usize,
 }
 
-// The names, the statements and the constants of lent tables, without what lies past them.
-fn listing<'a, T>(tables: Tables<'a, T>) -> Listing<'a, T>
-    ensures { listed result ≡ tabled tables.entry }
-{
-    Listing {
-        names: &tables.sheet.names,
-        rows: first_places(tables.rows, tables.sheet.statements),
-        constants: first_places(tables.constants, tables.sheet.constants),
-    }
-}
-
 // The row of a statement, counted from 1.
 fn row_of(rows: &[Row], number: usize) -> Option<Row>
     ensures { result ≡ row_of rows.now number }
 {
     rows.get(number.checked_sub(1)?).copied()
+}
+
+// Carries out a statement of lent tables. All that it reads comes here under one lifetime, as the struct that takes it has one.
+fn carry<'a, K: Kind, S: Store<Symbol = K::Symbol>>(
+    kind: &'a K,
+    tables: Tables<'a, K::Symbol>,
+    row: &'a Row,
+    number: usize,
+    mode: Mode,
+    allowance: usize,
+    store: &mut S,
+    string: &mut [K::Symbol],
+    constants: &mut [K::Symbol],
+    contents: &mut [K::Symbol],
+) -> Result<Done, StatementRefusal>
+    requires carriable { Carriable (S.Store.held store.old) (tabled tables).names row.now }
+    requires low { 1 ≤ allowance }
+    requires high { allowance ≤ 1000000 }
+    requires string { (S.Store.held store.old).longest ≤ length string.old }
+    requires constants { 8 * (S.Store.held store.old).longest ≤ length constants.old }
+    requires contents { (S.Store.held store.old).longest ≤ length contents.old }
+    ensures answer { result ≡ done_by K.Kind.chars (tabled tables.entry) number row.entry.now (S.Store.held store.old) (sought K.Kind.equal (K.Kind.acts kind.entry.now) mode allowance K.Kind.chars (tabled tables.entry).names (tabled tables.entry).constants (S.Store.held store.old) row.entry.now) }
+    ensures after { S.Store.held store.new ≡ names_of (S.Store.held store.old) (left_by K.Kind.chars (tabled tables.entry) number row.entry.now (S.Store.held store.old) (sought K.Kind.equal (K.Kind.acts kind.entry.now) mode allowance K.Kind.chars (tabled tables.entry).names (tabled tables.entry).constants (S.Store.held store.old) row.entry.now)) }
+{
+    let listing = Listing::new(kind, tables);
+    let statement = Statement {
+        listing,
+        row,
+        number,
+    };
+    carry_out(
+        statement, mode, allowance, store, string, constants, contents,
+    )
 }
 
 fn check_allowance(allowance: usize) -> Result<(), Refusal>
@@ -142,10 +170,9 @@ impl<K: Kind + Drop, S: Store<Symbol = K::Symbol>> Session<K, S> {
         let row = self.ready(tables, allowance, entries, work)?;
         let number = self.next.number();
         let mode = self.mode;
-        let listing = listing(tables);
-        let done = carry_out(
+        let done = carry(
             &self.kind,
-            listing,
+            tables,
             &row,
             number,
             mode,

@@ -1,19 +1,15 @@
 // The bench, for now: what each line of a capture is, read as log characters and as bus events; the first `[ID]` of each log line; and the IDs found, kept in both stores.
 #![tactic(auto)]
 
-mod area;
 mod finding;
 mod keeping;
-mod line;
 mod roles;
 mod survey;
 
-use crate::area::area;
 use crate::finding::{Brackets, find_id};
 use crate::keeping::{keep, show};
-use crate::line::line_end;
 use crate::survey::survey;
-use anyhow::anyhow;
+use lines::text::Lines;
 use packed::PackedStore;
 use slots::SlotStore;
 use std::io::Read;
@@ -53,9 +49,7 @@ fn take_line(
             keep(rt, "packed", &mut kept.packed, kept.found, id)?;
         }
     }
-    let Ok(blank) = BusEvents.read(b"000.0000") else {
-        return Err(anyhow!("no bus event"));
-    };
+    let blank = BusEvents.read(b"000.0000")?;
     survey(rt, number, "bus", &BusEvents, blank, line)?;
     Ok(())
 }
@@ -66,16 +60,8 @@ fn take_lines(
     brackets: &Brackets,
     kept: &mut Kept,
 ) -> anyhow::Result<()> {
-    let mut number: u64 = 0;
-    let mut from: usize = 0;
-    while from < text.len() {
-        let end = line_end(text, from);
-        number = number.saturating_add(1);
-        take_line(rt, number, &text[from..end], brackets, kept)?;
-        if end == text.len() {
-            return Ok(());
-        }
-        from = end + 1;
+    for (number, line) in (1..).zip(Lines::of(text)) {
+        take_line(rt, number, line.line, brackets, kept)?;
     }
     Ok(())
 }
@@ -84,8 +70,8 @@ fn run(rt: &HostRuntime) -> anyhow::Result<()> {
     let mut input = Vec::new(rt.alloc());
     rt.stdin().read_to_end(&mut input)?;
     let brackets = Brackets::new()?;
-    let mut slot_area = area(rt.alloc(), brackets.opening, LIMITS.most)?;
-    let mut packed_area = area(rt.alloc(), brackets.opening, LIMITS.most)?;
+    let mut slot_area = vec![in rt.alloc(); brackets.opening; LIMITS.most]?;
+    let mut packed_area = vec![in rt.alloc(); brackets.opening; LIMITS.most]?;
     let mut kept = Kept {
         slots: SlotStore::new(slot_area.as_mut_slice(), LIMITS.names, LIMITS.longest),
         packed: PackedStore::new(packed_area.as_mut_slice(), LIMITS),

@@ -1,7 +1,5 @@
 // What a line is, read as symbols of one kind.
-use crate::area::area;
 use crate::roles::count_roles;
-use anyhow::anyhow;
 use symbols::kind::Kind;
 use symbols::text::{check_text, read_text};
 
@@ -17,19 +15,15 @@ pub fn survey<K: Kind>(
     let count = match check_text(kind, line) {
         Ok(count) => count,
         Err(found) => {
-            let fault = found.fault.number();
-            let column = found.at.saturating_add(1);
+            let (fault, column) = (found.fault.number(), found.at.saturating_add(1));
             println!(rt; "{number} {name} fault {fault} column {column}")?;
             return Ok(None);
         }
     };
-    let mut symbols = area(rt.alloc(), blank, count)?;
-    if let Err(_) = read_text(kind, line, symbols.as_mut_slice()) {
-        return Err(anyhow!("a line that was checked is not read"));
-    }
+    let mut symbols = vec![in rt.alloc(); blank; count]?;
+    read_text(kind, line, symbols.as_mut_slice())?;
     let roles = count_roles(kind, symbols.as_slice());
-    let opening = roles.opening;
-    let closing = roles.closing;
+    let (opening, closing) = (roles.opening, roles.closing);
     println!(rt; "{number} {name} symbols {count} opening {opening} closing {closing}")?;
     Ok(Some(symbols))
 }

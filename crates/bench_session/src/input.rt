@@ -3,7 +3,7 @@ ghost use Rattle.std.specs.Prelude.{◌≡◌, ◌+◌, ◌≤◌, min, length};
 ghost use Rattle.bench_session.specs.Input.{sheet_end};
 
 use sheets::check::labelled_end;
-use sheets::reader::line_end;
+use lines::text::line_end;
 
 // The place behind the line that ends at `end`: past its code 10, if it has one.
 fn past(text: &[u8], end: usize) -> usize

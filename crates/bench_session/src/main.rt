@@ -1,21 +1,20 @@
 // The bench: reads a sheet and a line of log characters, carries the sheet out over the line, and prints the record and the names.
 #![tactic(auto)]
 
-mod area;
 mod input;
 mod show;
+mod stop;
 mod work;
 
-use crate::area::area;
 use crate::input::sheet_end;
-use crate::show::{show_entries, show_names, show_stop};
+use crate::show::{show_entries, show_names};
+use crate::stop::Stop;
 use crate::work::{STEPS, work};
-use anyhow::anyhow;
+use lines::text::Lines;
 use load::load;
 use rows::row::blank_row;
 use session::entry::blank_entry;
 use session::session::Session;
-use sheets::reader::line_end;
 use slots::SlotStore;
 use std::io::Read;
 use symbols::kind::Kind;
@@ -29,9 +28,6 @@ const NAMES: usize = 64;
 
 const LONGEST: usize = 1024;
 
-// The number of a refused line: it has a symbol fault.
-const SYMBOL_FAULT: u8 = 6;
-
 // Carries a sheet out over a line, and prints the record, why it stopped, and the names.
 fn carry_out<'a>(
     rt: &HostRuntime,
@@ -41,11 +37,11 @@ fn carry_out<'a>(
     line: &[LogChar],
     blank: LogChar,
 ) -> anyhow::Result<()> {
-    let mut kept = area(rt.alloc(), blank, NAMES * LONGEST)?;
-    let mut string = area(rt.alloc(), blank, LONGEST)?;
-    let mut work_constants = area(rt.alloc(), blank, 8 * LONGEST)?;
-    let mut contents = area(rt.alloc(), blank, LONGEST)?;
-    let mut entries = area(rt.alloc(), blank_entry(), STEPS + 1)?;
+    let mut kept = vec![in rt.alloc(); blank; NAMES * LONGEST]?;
+    let mut string = vec![in rt.alloc(); blank; LONGEST]?;
+    let mut work_constants = vec![in rt.alloc(); blank; 8 * LONGEST]?;
+    let mut contents = vec![in rt.alloc(); blank; LONGEST]?;
+    let mut entries = vec![in rt.alloc(); blank_entry(); STEPS + 1]?;
     let store = SlotStore::new(kept.as_mut_slice(), NAMES, LONGEST);
     let mut session = Session::open(LogChars, sheet, rows, constants, store);
     let outcome = work(
@@ -63,23 +59,20 @@ fn carry_out<'a>(
     );
     let store = session.close();
     match outcome {
-        Err(refusal) => show_stop(rt, refusal.number()),
+        Err(refusal) => println!(rt; "{}", Stop::CallRefused(refusal))?,
         Ok(outcome) => {
             let recorded = outcome.recorded.min(entries.len());
-            show_entries(rt, &entries.as_slice()[0..recorded])?;
-            show_stop(rt, outcome.stop)?;
-            show_names(rt, &sheet.names, &store, string.as_mut_slice())
+            show_entries(rt, &entries.as_slice()[..recorded])?;
+            println!(rt; "{}", outcome.stop)?;
+            show_names(rt, &sheet.names, &store, string.as_mut_slice())?;
         }
     }
+    Ok(())
 }
 
 // The line behind the sheet, null where there is none.
-fn line_behind(text: &[u8], from: usize) -> &[u8] {
-    if from >= text.len() {
-        return &[];
-    }
-    let end = line_end(text, from);
-    &text[from..end]
+fn line_behind(text: &[u8]) -> &[u8] {
+    Lines::of(text).next().map_or(&[], |line| line.line)
 }
 
 fn run(rt: &HostRuntime) -> anyhow::Result<()> {
@@ -87,24 +80,27 @@ fn run(rt: &HostRuntime) -> anyhow::Result<()> {
     rt.stdin().read_to_end(&mut input)?;
     let text = input.as_slice();
     let end = sheet_end(text).min(text.len());
-    let line = line_behind(text, end);
-    let Ok(blank) = LogChars.read(b" ") else {
-        return Err(anyhow!("no blank"));
-    };
-    let mut rows = area(rt.alloc(), blank_row(), 128)?;
-    let mut constants = area(rt.alloc(), blank, 4096)?;
-    let sheet = match load(
+    let line = line_behind(&text[end..]);
+    let blank = LogChars.read(b" ")?;
+    let mut rows = vec![in rt.alloc(); blank_row(); 128]?;
+    let mut constants = vec![in rt.alloc(); blank; 4096]?;
+    let loaded = load(
         &LogChars,
-        &text[0..end],
+        &text[..end],
         rows.as_mut_slice(),
         constants.as_mut_slice(),
-    ) {
+    );
+    let sheet = match loaded {
         Ok(sheet) => sheet,
-        Err(refusal) => return show_stop(rt, refusal.cause.number()),
+        Err(refusal) => {
+            println!(rt; "{}", Stop::SheetRefused(refusal.cause))?;
+            return Ok(());
+        }
     };
-    let mut symbols = area(rt.alloc(), blank, line.len())?;
+    let mut symbols = vec![in rt.alloc(); blank; line.len()]?;
     let Ok(count) = read_text(&LogChars, line, symbols.as_mut_slice()) else {
-        return show_stop(rt, SYMBOL_FAULT);
+        println!(rt; "{}", Stop::LineRefused)?;
+        return Ok(());
     };
     let count = count.min(symbols.len());
     carry_out(
@@ -112,7 +108,7 @@ fn run(rt: &HostRuntime) -> anyhow::Result<()> {
         sheet,
         rows.as_slice(),
         constants.as_slice(),
-        &symbols.as_slice()[0..count],
+        &symbols.as_slice()[..count],
         blank,
     )
 }

@@ -1,83 +1,51 @@
 // What the bench prints.
-use crate::area::area;
-use anyhow::anyhow;
+use anyhow::Context;
 use session::entry::Entry;
+use std::fmt;
 use stores::store::Store;
-use symbols::log::LogChars;
 use symbols::log_char::LogChar;
-use symbols::text::write_text;
-use tables::lookup::used_names;
-use tables::name::Name;
 use tables::sheet::NameTable;
+use texts::Text;
 
 // An entry: its kind and number, and the start and the ends of a placing.
-fn show_entry(rt: &HostRuntime, entry: &Entry) -> anyhow::Result<()> {
-    let (kind, number) = (entry.kind.letter() as char, entry.number);
-    print!(rt; "{kind} {number}")?;
-    let count = entry.count.min(8);
-    if count > 0 {
-        let start = entry.start;
-        print!(rt; " {start}")?;
+#[derive(Clone, Copy)]
+struct Recorded<'a>(&'a Entry);
+
+impl<'a> fmt::Display for Recorded<'a> {
+    fn fmt<W: fmt::Write>(&self, f: &mut fmt::Formatter<W>) -> fmt::Result {
+        let entry = self.0;
+        write!(f, "{} {}", entry.kind.letter() as char, entry.number)?;
+        let ends = &entry.ends[..entry.count.min(8)];
+        if !ends.is_empty() {
+            write!(f, " {}", entry.start)?;
+        }
+        for end in ends {
+            write!(f, " {end}")?;
+        }
+        Ok(())
     }
-    for end in &entry.ends[0..count] {
-        print!(rt; " {end}")?;
-    }
-    println!(rt; "")?;
-    Ok(())
 }
 
 pub fn show_entries(rt: &HostRuntime, entries: &[Entry]) -> anyhow::Result<()> {
     for entry in entries {
-        show_entry(rt, entry)?;
+        println!(rt; "{}", Recorded(entry))?;
     }
     Ok(())
 }
 
-pub fn show_stop(rt: &HostRuntime, number: u8) -> anyhow::Result<()> {
-    println!(rt; "STOP {number}")?;
-    Ok(())
-}
-
-// Prints log characters as their text.
-fn print_symbols(rt: &HostRuntime, symbols: &[LogChar]) -> anyhow::Result<()> {
-    let mut bytes = area(rt.alloc(), 0u8, symbols.len())?;
-    if let Err(_) = write_text(&LogChars, symbols, bytes.as_mut_slice()) {
-        return Err(anyhow!("a text that is longer than its symbols"));
-    }
-    let text = std::str::from_utf8(bytes.as_slice())?;
-    println!(rt; "{text}")?;
-    Ok(())
-}
-
-// A name with the contents of its number, which are fetched to `string`.
-fn show_name<S: Store<Symbol = LogChar>>(
-    rt: &HostRuntime,
-    name: &Name,
-    number: usize,
-    store: &S,
-    string: &mut [LogChar],
-) -> anyhow::Result<()> {
-    let length = name.length.min(16);
-    let letters = std::str::from_utf8(&name.letters[0..length])?;
-    print!(rt; "{letters}=")?;
-    let Ok(count) = store.fetch(number, string) else {
-        return Err(anyhow!("contents that the store does not fetch"));
-    };
-    if count > string.len() {
-        return Err(anyhow!("contents that are longer than their area"));
-    }
-    print_symbols(rt, &string[0..count])
-}
-
-// Each name of a sheet with its contents.
+// Each name of a sheet with the contents of its number, which are fetched to `area`.
 pub fn show_names<S: Store<Symbol = LogChar>>(
     rt: &HostRuntime,
     names: &NameTable,
     store: &S,
-    string: &mut [LogChar],
+    area: &mut [LogChar],
 ) -> anyhow::Result<()> {
-    for (i, name) in used_names(names).iter().enumerate() {
-        show_name(rt, name, i.saturating_add(1), store, string)?;
+    for (number, name) in (1..).zip(names.names()) {
+        let length = store.fetch(number, area)?;
+        let contents = area
+            .get(..length)
+            .context("contents that are longer than their area")?;
+        println!(rt; "{name}={}", Text(contents))?;
     }
     Ok(())
 }

@@ -2,50 +2,45 @@
 #![tactic(auto)]
 
 mod listing;
-mod refusal;
 
 use crate::listing::show_tables;
-use crate::refusal::show_refusal;
-use anyhow::anyhow;
+use anyhow::{Context, ensure};
 use load::load;
+use refusals::Refused;
 use rows::row::blank_row;
-use std::{env, fs};
+use std::{env, fmt, fs};
 use symbols::bus::BusEvents;
 use symbols::kind::Kind;
 use symbols::log::LogChars;
 use tables::sheet::Tables;
 
 // Loads a sheet and shows its tables or its refusal; `blank` is some symbol, to fill the area of constants with.
-fn show<K: Kind>(rt: &HostRuntime, kind: &K, blank: &[u8], text: &[u8]) -> anyhow::Result<()> {
-    let Ok(symbol) = kind.read(blank) else {
-        return Err(anyhow!("no symbol to fill an area with"));
-    };
+fn show<K: Kind>(rt: &HostRuntime, kind: &K, blank: &[u8], text: &[u8]) -> anyhow::Result<()>
+where
+    K::Symbol: fmt::Display,
+{
+    let symbol = kind.read(blank).context("no symbol to fill an area with")?;
     let mut rows = vec![in rt.alloc(); blank_row(); 128]?;
-    let mut constants = Vec::new(rt.alloc());
-    for _ in 0..4096 {
-        constants.push(symbol)?;
-    }
+    let mut constants = vec![in rt.alloc(); symbol; 4096]?;
     match load(kind, text, rows.as_mut_slice(), constants.as_mut_slice()) {
-        Ok(sheet) => show_tables(
+        Ok(sheet) => show_tables::<K>(
             rt,
-            kind,
             Tables {
                 sheet: &sheet,
                 rows: rows.as_slice(),
                 constants: constants.as_slice(),
             },
-        ),
-        Err(refusal) => show_refusal(rt, text, refusal),
+        )?,
+        Err(refusal) => println!(rt; "{}", Refused { text, refusal })?,
     }
+    Ok(())
 }
 
 // Each argument is a file, or the kind of symbols of the files after it.
 fn run(rt: &HostRuntime) -> anyhow::Result<()> {
     let mut bus = false;
     let mut shown = false;
-    let mut args = env::args(rt)?;
-    let _ = args.next();
-    for word in args {
+    for word in env::args(rt)?.skip(1) {
         match word.as_str() {
             "bus" => bus = true,
             "log" => bus = false,
@@ -61,9 +56,7 @@ fn run(rt: &HostRuntime) -> anyhow::Result<()> {
             }
         }
     }
-    if !shown {
-        return Err(anyhow!("usage: sheet [log | bus] FILE ..."));
-    }
+    ensure!(shown, "usage: sheet [log | bus] FILE ...");
     Ok(())
 }
 

@@ -1,4 +1,4 @@
-// One line of a sheet: which lines are statement lines, how far a line goes as one does, and its tokens.
+// The lines of a text, and one line of a sheet: which lines are statement lines, how far a line goes as one does, and its tokens.
 #![tactic(auto)]
 
 pub mod lexeme;

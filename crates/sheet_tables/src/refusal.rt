@@ -2,23 +2,6 @@
 use sheets::fault::{Cause, Refusal};
 use std::alloc::{AllocError, Global};
 
-// What is wrong, in plain words.
-fn words(cause: Cause) -> &'static str {
-    match cause {
-        Cause::TextLong => "the text is longer than 16,384 characters",
-        Cause::LineLong => "the line is longer than 120 characters",
-        Cause::BadCode => "this character may not stand in a sheet",
-        Cause::NoStatement => "no statement goes on like this",
-        Cause::LongName => "a name or a label has at most 16 characters",
-        Cause::Symbol(_) => "the literal is not read as symbols",
-        Cause::TooMany => "this is one too many",
-        Cause::SecondLabel => "another statement has this label",
-        Cause::UnknownLabel => "no statement has this label",
-        Cause::End => "END's line is missing, or something follows it",
-        Cause::ShortArea => "the areas of the host are too short",
-    }
-}
-
 // The line of a number, counted from 1, with `?` for what cannot be printed.
 fn line_of(heap: Global, text: &[u8], number: usize) -> Result<String, AllocError> {
     let mut line = String::new(heap);
@@ -56,7 +39,7 @@ pub fn show_refusal(rt: &HostRuntime, text: &[u8], refusal: Refusal) -> anyhow::
         print!(rt; " symbol {fault}")?;
     }
     println!(rt; "")?;
-    let why = words(refusal.cause);
+    let why = refusal.cause;
     if line == 0 {
         println!(rt; "{why}")?;
         return Ok(());

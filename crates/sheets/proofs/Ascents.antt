@@ -94,7 +94,7 @@ module _ (reads : List ℕ → Result ℕ TextFault) (bounded : (c : List ℕ) (
         when_all Here (leb 8 (opened_before (opened_by t.role) n.elements n.operands)) (fault (t.start + 1) Cause.TooMany)
         (λ e. (omega arith, omega arith))
 
-    extra_here : AllByRecursion Here (extra_name s n t)
+    extra_here : AllByRecursion Here (extra_name s n.names t)
     extra_here =
         when_all Here (brings_name s t && (leb 64 (length n.names) && absent (position (spelling s t) n.names))) (fault ((word s t).start + 1) Cause.TooMany)
         (λ e. let l = ltb-true 0 (word s t).size
@@ -122,8 +122,8 @@ module _ (reads : List ℕ → Result ℕ TextFault) (bounded : (c : List ℕ) (
     token_here : AllByRecursion Here (token_faults reads s n t)
     unfolding token_faults
     token_here =
-        All-append Here ((long_name s t ++ ninth n.elements n.operands t) ++ extra_name s n t) (literal_faults (literal reads s t) n.symbols t)
-        (All-append Here (long_name s t ++ ninth n.elements n.operands t) (extra_name s n t)
+        All-append Here ((long_name s t ++ ninth n.elements n.operands t) ++ extra_name s n.names t) (literal_faults (literal reads s t) n.symbols t)
+        (All-append Here (long_name s t ++ ninth n.elements n.operands t) (extra_name s n.names t)
         (All-append Here (long_name s t) (ninth n.elements n.operands t) long_here ninth_here) extra_here)
         literal_here
 

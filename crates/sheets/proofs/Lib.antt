@@ -7,6 +7,7 @@ pub mod Firsts
 pub mod LabelLoops
 pub mod LineLaws
 pub mod LineLoops
+pub mod Mapped
 pub mod Literals
 pub mod Refusals
 pub mod Searches

@@ -44,6 +44,10 @@ form_first statements labels s a b c d e i p q f g h =
 abbrev bringing : ℕ → List (List ℕ) → ℕ → List (List ℕ) → Bool → Brought
 bringing k ls c ns b = record { statements = k; labels = ls; symbols = c; names = ns; ended = b }
 
+-- before the tokens of a line
+abbrev pub tallied : Carried → Tally
+tallied c = record { elements = 0; operands = 0; symbols = c.symbols; names = c.names }
+
 or_left : (a b : Bool) → false ≡ (a || b) → false ≡ a
 or_left true b e = e
 or_left false b e = refl

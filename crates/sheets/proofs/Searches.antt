@@ -1,6 +1,8 @@
 -- A search among the words of a table. Assumes nothing.
-use Rattle.std.proofs.Common.{◌≡◌, ℕ, zero, suc, ◌+◌, ◌-◌, ◌<◌, ◌≤◌, Bool, true, false, cond, ltb, List, [], ◌∷◌, ◌++◌, map, length, get_or, take, drop, set, Some, None, Option, sym, refl, ap, ◌∙◌, subst, suc-le-suc, le_of_suc-le-suc, not-suc-le-zero, add-one, arith, length-drop, take_all, drop-cons, take-suc-set, ltb-false}
+use Rattle.std.proofs.Common.{◌≡◌, ℕ, zero, suc, ◌+◌, ◌-◌, ◌<◌, ◌≤◌, Bool, true, false, cond, ltb, List, [], ◌∷◌, ◌++◌, map, length, get_or, take, drop, set, Some, None, Option, sym, refl, ap, ◌∙◌, subst, true≢false, suc-le-suc, le_of_suc-le-suc, not-suc-le-zero, add-one, arith, length-drop, take_all, drop-cons, take-suc-set, ltb-false}
 use lib.Seq.{drop-length, take-length}
+use Rattle.std.specs.Prelude.{min, is_some}
+use Rattle.std.proofs.lemmas.Bool.Decides.{nat_tests}
 use Rattle.std.specs.Str.{bytes_eq}
 use Rattle.sheets.specs.declared.part.Part.{Part}
 use Rattle.std.proofs.lemmas.Slice.Eq.{bytes_eq-Decides}
@@ -37,12 +39,23 @@ module _ (text : List ℕ) (ps : List Part) (n : ℕ) (p : Part) (h : n < length
   pub pushed : map (part_of text) (take (n + 1) (set ps n p)) ≡ map (part_of text) (take n ps) ++ (part_of text p ∷ [])
   pushed = ap (map (part_of text)) one_more ∙ map_push (part_of text) (take n ps) p
 
-  pub noted : (x : List ℕ) (m : ℕ) → x ≡ part_of text p → m ≡ n → None ≡ position x (map (part_of text) (take m ps))
-      → map (part_of text) (take (n + 1) (set ps n p)) ≡ with_word (part_of text p) (map (part_of text) (take n ps))
-  noted x m e f none =
-      pushed
-      ∙ ap (λ (o : Option ℕ). or_added o (part_of text p) (map (part_of text) (take n ps)))
-      (none ∙ ap (λ (k : ℕ). position x (map (part_of text) (take k ps))) f ∙ ap (λ (y : List ℕ). position y (map (part_of text) (take n ps))) e)
+  -- a search for what the part spells, among the first n
+  module _ (x : List ℕ) (ws : List (List ℕ)) (e : x ≡ part_of text p) (w : ws ≡ map (part_of text) (take n ps)) where
+    sought : (o : Option ℕ) → o ≡ position x ws → o ≡ position (part_of text p) (map (part_of text) (take n ps))
+    sought o v = v ∙ ap (λ (y : List ℕ). position y ws) e ∙ ap (position (part_of text p)) w
+
+    pub noted : (o : Option ℕ) → o ≡ position x ws → is_some o ≡ false
+        → map (part_of text) (take (n + 1) (set ps n p)) ≡ with_word (part_of text p) (map (part_of text) (take n ps))
+    noted None v none = pushed ∙ ap (λ (o : Option ℕ). or_added o (part_of text p) (map (part_of text) (take n ps))) (sought None v)
+    noted (Some k) v none = absurd (true≢false none)
+
+    pub kept : (o : Option ℕ) → o ≡ position x ws → is_some o ≡ true
+        → map (part_of text) (take n ps) ≡ with_word (part_of text p) (map (part_of text) (take n ps))
+    kept None v some = absurd (true≢false (sym some))
+    kept (Some k) v some = ap (λ (o : Option ℕ). or_added o (part_of text p) (map (part_of text) (take n ps))) (sought (Some k) v)
+
+clip : (m n : ℕ) → min m n ≡ cond (ltb m n) m n
+clip m n = grind (arith, nat_tests)
 
 -- the characters of a part, as far as the text has them
 take_clipped : (s : List ℕ) (m : ℕ) → take (cond (ltb m (length s)) m (length s)) s ≡ take m s
@@ -65,14 +78,13 @@ drop_clipped s m = go (ltb m (length s)) refl
     go true e = refl
     go false e = drop-length s ∙ sym (drop_past s m (ltb-false m (length s) e))
 
-pub part_clipped : (text : List ℕ) (p : Part) (a b : ℕ) → a ≡ cond (ltb p.start (length text)) p.start (length text)
-    → b ≡ cond (ltb p.size (length text - a)) p.size (length text - a) → take ((a + b) - a) (drop a text) ≡ part_of text p
+pub part_clipped : (text : List ℕ) (p : Part) (a b : ℕ) → a ≡ min p.start (length text) → b ≡ min p.size (length text - a) → take ((a + b) - a) (drop a text) ≡ part_of text p
 unfolding part_of
 part_clipped text p a b ea eb =
     ap (λ (n : ℕ). take n (drop a text)) (omega arith)
-    ∙ ap (λ (n : ℕ). take n (drop a text)) (eb ∙ ap (λ (n : ℕ). cond (ltb p.size n) p.size n) (sym (length-drop a text)))
+    ∙ ap (λ (n : ℕ). take n (drop a text)) (eb ∙ clip p.size (length text - a) ∙ ap (λ (n : ℕ). cond (ltb p.size n) p.size n) (sym (length-drop a text)))
     ∙ take_clipped (drop a text) p.size
-    ∙ ap (take p.size) (ap (λ (n : ℕ). drop n text) ea ∙ drop_clipped text p.start)
+    ∙ ap (take p.size) (ap (λ (n : ℕ). drop n text) (ea ∙ clip p.start (length text)) ∙ drop_clipped text p.start)
 
 -- where a word stands first, counted from i
 abbrev Stands : ℕ → List ℕ → List (List ℕ) → Option ℕ → Type 0

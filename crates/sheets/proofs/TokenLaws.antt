@@ -19,13 +19,13 @@ use Rattle.sheets.proofs.Firsts.{first_append}
 
 module _ (reads : List ℕ → Result ℕ TextFault) (s : List ℕ) (n : Count) (t : Token) where
   pub token_first : first (token_faults reads s n t)
-      ≡ least (least (least (first (long_name s t)) (first (ninth n.elements n.operands t))) (first (extra_name s n t))) (first (literal_faults (literal reads s t) n.symbols t))
+      ≡ least (least (least (first (long_name s t)) (first (ninth n.elements n.operands t))) (first (extra_name s n.names t))) (first (literal_faults (literal reads s t) n.symbols t))
   unfolding token_faults
   token_first =
-      first_append ((long_name s t ++ ninth n.elements n.operands t) ++ extra_name s n t) (literal_faults (literal reads s t) n.symbols t)
+      first_append ((long_name s t ++ ninth n.elements n.operands t) ++ extra_name s n.names t) (literal_faults (literal reads s t) n.symbols t)
       ∙ ap (λ (o : Option Fault). least o (first (literal_faults (literal reads s t) n.symbols t)))
-      (first_append (long_name s t ++ ninth n.elements n.operands t) (extra_name s n t)
-      ∙ ap (λ (o : Option Fault). least o (first (extra_name s n t))) (first_append (long_name s t) (ninth n.elements n.operands t)))
+      (first_append (long_name s t ++ ninth n.elements n.operands t) (extra_name s n.names t)
+      ∙ ap (λ (o : Option Fault). least o (first (extra_name s n.names t))) (first_append (long_name s t) (ninth n.elements n.operands t)))
 
 joined_err : (o : Option Fault) (g : Fault) (k : ℕ) → joined o (Err g) ≡ answered (least o (Some g)) k
 joined_err None g k = refl
@@ -113,7 +113,7 @@ when_none false f e = refl
 
 module _ (reads : List ℕ → Result ℕ TextFault) (s : List ℕ) (n : Count) (t : Token) (no : first (token_faults reads s n t) ≡ None) where
   abbrev others : Option Fault
-  others = least (least (first (long_name s t)) (first (ninth n.elements n.operands t))) (first (extra_name s n t))
+  others = least (least (first (long_name s t)) (first (ninth n.elements n.operands t))) (first (extra_name s n.names t))
 
   apart : least others (first (literal_faults (literal reads s t) n.symbols t)) ≡ None
   apart = sym (token_first reads s n t) ∙ no
@@ -132,28 +132,28 @@ module _ (reads : List ℕ → Result ℕ TextFault) (s : List ℕ) (n : Count) 
   few =
       when_none (leb 8 (opened_before (opened_by t.role) n.elements n.operands)) (fault (t.start + 1) Cause.TooMany)
       (least_none_right (first (long_name s t)) (first (ninth n.elements n.operands t))
-      (least_none_left (least (first (long_name s t)) (first (ninth n.elements n.operands t))) (first (extra_name s n t)) without))
+      (least_none_left (least (first (long_name s t)) (first (ninth n.elements n.operands t))) (first (extra_name s n.names t)) without))
 
   pub elements_bound : n.elements ≤ 8 → n.elements + elements_opened (opened_by t.role) ≤ 8
   elements_bound h = go (opened_by t.role) few
     where
-      go : (o : Opened) → leb 8 (opened_before o n.elements n.operands) ≡ false → n.elements + elements_opened o ≤ 8
-      go Opened.Nothing e = omega arith
-      go Opened.Element e = grind (arith, nat_tests)
-      go Opened.Operand e = omega arith
+      go : (o : Option Opened) → leb 8 (opened_before o n.elements n.operands) ≡ false → n.elements + elements_opened o ≤ 8
+      go None e = omega arith
+      go (Some Opened.Element) e = grind (arith, nat_tests)
+      go (Some Opened.Operand) e = omega arith
 
   pub operands_bound : n.operands ≤ 8 → n.operands + operands_opened (opened_by t.role) ≤ 8
   operands_bound h = go (opened_by t.role) few
     where
-      go : (o : Opened) → leb 8 (opened_before o n.elements n.operands) ≡ false → n.operands + operands_opened o ≤ 8
-      go Opened.Nothing e = omega arith
-      go Opened.Element e = omega arith
-      go Opened.Operand e = grind (arith, nat_tests)
+      go : (o : Option Opened) → leb 8 (opened_before o n.elements n.operands) ≡ false → n.operands + operands_opened o ≤ 8
+      go None e = omega arith
+      go (Some Opened.Element) e = omega arith
+      go (Some Opened.Operand) e = grind (arith, nat_tests)
 
   named : (brings_name s t && (leb 64 (length n.names) && absent (position (spelling s t) n.names))) ≡ false
   named =
       when_none (brings_name s t && (leb 64 (length n.names) && absent (position (spelling s t) n.names))) (fault ((word s t).start + 1) Cause.TooMany)
-      (least_none_right (least (first (long_name s t)) (first (ninth n.elements n.operands t))) (first (extra_name s n t)) without)
+      (least_none_right (least (first (long_name s t)) (first (ninth n.elements n.operands t))) (first (extra_name s n.names t)) without)
 
   pub names_bound : length n.names ≤ 64 → length (cond (brings_name s t) (with_word (spelling s t) n.names) n.names) ≤ 64
   names_bound h = go (brings_name s t) (position (spelling s t) n.names) named
@@ -166,12 +166,16 @@ module _ (reads : List ℕ → Result ℕ TextFault) (s : List ℕ) (n : Count) 
           let l : length n.names < 64 = grind (arith, nat_tests) in
           subst (λ (m : ℕ). m ≤ 64) (sym (length-append n.names (spelling s t ∷ []))) (omega arith)
 
-abbrev counting : ℕ → ℕ → ℕ → List (List ℕ) → Count
-counting a b c ns = record { elements = a; operands = b; symbols = c; names = ns }
+abbrev count : ℕ → ℕ → ℕ → List (List ℕ) → Count
+count a b c ns = record { elements = a; operands = b; symbols = c; names = ns }
 
 answered_ok : (o : Option Fault) (a k : ℕ) → Ok k ≡ answered o a → (o ≡ None) × (k ≡ a)
 answered_ok None a k e = (refl, (let z : k ≡ a = cc in z))
 answered_ok (Some f) a k e = absurd (let z : ◌≡◌ {A = ℕ} 0 1 = cc in omega arith)
+
+pub answered_err : (o : Option Fault) (a : ℕ) (f : Fault) → Err f ≡ answered o a → o ≡ Some f
+answered_err None a f e = absurd (let z : ◌≡◌ {A = ℕ} 0 1 = cc in omega arith)
+answered_err (Some g) a f e = let z : g ≡ f = cc in ap (λ (x : Fault). Some x) z
 
 -- a token without fault, taken
 module _ (reads : List ℕ → Result ℕ TextFault) (s text : List ℕ) (names : List Part) (tally : Tally) (t : Token) (k : ℕ)
@@ -197,10 +201,10 @@ module _ (reads : List ℕ → Result ℕ TextFault) (s text : List ℕ) (names 
     counted_with : told text names' tallied ≡ with_token reads s so_far t
     unfolding with_token
     counted_with =
-        ap (λ (x : ℕ). counting x (tally.operands + o) (tally.symbols + k) (map (part_of text) (take m names'))) (ap (λ (x : ℕ). tally.elements + x) ee)
-        ∙ ap (λ (x : ℕ). counting (tally.elements + elements_opened (opened_by t.role)) x (tally.symbols + k) (map (part_of text) (take m names'))) (ap (λ (x : ℕ). tally.operands + x) oo)
-        ∙ ap (λ (x : ℕ). counting (tally.elements + elements_opened (opened_by t.role)) (tally.operands + operands_opened (opened_by t.role)) x (map (part_of text) (take m names'))) (ap (λ (x : ℕ). tally.symbols + x) added)
-        ∙ ap (counting (tally.elements + elements_opened (opened_by t.role)) (tally.operands + operands_opened (opened_by t.role)) (tally.symbols + symbols_added (literal reads s t))) nn
+        ap (λ (x : ℕ). count x (tally.operands + o) (tally.symbols + k) (map (part_of text) (take m names'))) (ap (λ (x : ℕ). tally.elements + x) ee)
+        ∙ ap (λ (x : ℕ). count (tally.elements + elements_opened (opened_by t.role)) x (tally.symbols + k) (map (part_of text) (take m names'))) (ap (λ (x : ℕ). tally.operands + x) oo)
+        ∙ ap (λ (x : ℕ). count (tally.elements + elements_opened (opened_by t.role)) (tally.operands + operands_opened (opened_by t.role)) x (map (part_of text) (take m names'))) (ap (λ (x : ℕ). tally.symbols + x) added)
+        ∙ ap (count (tally.elements + elements_opened (opened_by t.role)) (tally.operands + operands_opened (opened_by t.role)) (tally.symbols + symbols_added (literal reads s t))) nn
 
     pub token_took : Within tally → tally.names ≤ length names → m ≤ length names'
         → Took (first (token_faults reads s so_far t)) (with_token reads s so_far t) text names' (Ok tallied)

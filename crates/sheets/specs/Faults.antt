@@ -20,6 +20,10 @@ symbol_fault e = fault e.column (Cause.Symbol e.fault)
 abbrev pub refused_at : LineFault → Refusal
 refused_at e = record { line = e.line; column = e.fault.column; cause = e.fault.cause }
 
+-- a refusal that has no place
+abbrev pub nowhere : Cause → Refusal
+nowhere w = record { line = 0; column = 0; cause = w }
+
 -- the smaller column, then the smaller number
 abbrev pub before : Fault → Fault → Bool
 before f g = nat_lt f.column g.column || (f.column == g.column && nat_lt (number f.cause) (number g.cause))

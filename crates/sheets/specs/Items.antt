@@ -1,5 +1,5 @@
 -- What a token of a line is to its statement. Assumes nothing.
-use Rattle.std.specs.Prelude.{ℕ, ◌+◌, ◌-◌, ◌<◌, ◌≤◌, Bool, true, false, cond, ◌&&◌, List, length, ◌==◌, nat_lt, slice_index}
+use Rattle.std.specs.Prelude.{ℕ, ◌+◌, ◌-◌, ◌<◌, ◌≤◌, Bool, true, false, cond, ◌&&◌, List, length, Some, None, Option, ◌==◌, nat_lt, slice_index}
 use Rattle.lines.specs.declared.role.Role.{Role}
 use Rattle.lines.specs.declared.token.Token.{Token}
 use Rattle.sheets.specs.declared.item.Opened.{Opened}
@@ -26,24 +26,24 @@ sort_of Role.Both = Sort.Target
 sort_of Role.OnS = Sort.Target
 sort_of Role.OnF = Sort.Target
 
--- what a token begins
-abbrev pub opened_by : Role → Opened
-opened_by Role.Between = Opened.Nothing
-opened_by Role.Label = Opened.Nothing
-opened_by Role.Start = Opened.Nothing
-opened_by Role.Reference = Opened.Nothing
-opened_by Role.Element = Opened.Element
-opened_by Role.LiteralElement = Opened.Element
-opened_by Role.Star = Opened.Element
-opened_by Role.Variable = Opened.Nothing
-opened_by Role.Group = Opened.Nothing
-opened_by Role.Length = Opened.Nothing
-opened_by Role.Equal = Opened.Nothing
-opened_by Role.Operand = Opened.Operand
-opened_by Role.LiteralOperand = Opened.Operand
-opened_by Role.Both = Opened.Nothing
-opened_by Role.OnS = Opened.Nothing
-opened_by Role.OnF = Opened.Nothing
+-- what a token begins, if anything
+abbrev pub opened_by : Role → Option Opened
+opened_by Role.Between = None
+opened_by Role.Label = None
+opened_by Role.Start = None
+opened_by Role.Reference = None
+opened_by Role.Element = Some Opened.Element
+opened_by Role.LiteralElement = Some Opened.Element
+opened_by Role.Star = Some Opened.Element
+opened_by Role.Variable = None
+opened_by Role.Group = None
+opened_by Role.Length = None
+opened_by Role.Equal = None
+opened_by Role.Operand = Some Opened.Operand
+opened_by Role.LiteralOperand = Some Opened.Operand
+opened_by Role.Both = None
+opened_by Role.OnS = None
+opened_by Role.OnF = None
 
 -- a token that lies in the line
 pub record Inside (s : List ℕ) (t : Token) : Type 0 where

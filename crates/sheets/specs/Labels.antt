@@ -1,4 +1,5 @@
 -- The labels that a sheet goes to, and the earliest that no statement has. Assumes nothing.
+pub use Rattle.sheets.specs.Faults.{nowhere}
 use Rattle.std.specs.Prelude.{◌≡◌, ℕ, ◌+◌, Bool, true, false, cond, not, ◌&&◌, ◌||◌, List, [], ◌∷◌, length, Some, None, Ok, Err, codes, Option, Result, nat_lt}
 use Rattle.std.specs.Str.{bytes_eq}
 use Rattle.lines.specs.declared.role.Role.{Role}
@@ -59,10 +60,6 @@ unknown_from labels s (t ∷ ts) = or_else (token_unknown labels s t) (unknown_f
 unfoldable pub lines_unknown : List (List ℕ) → ℕ → List (List ℕ) → Option Refusal
 lines_unknown labels k [] = None
 lines_unknown labels k (l ∷ ls) = refused_first (unknown_from labels l (tokens l)) k (lines_unknown labels (k + 1) ls)
-
--- a refusal that has no place
-abbrev pub nowhere : Cause → Refusal
-nowhere w = record { line = 0; column = 0; cause = w }
 
 -- the refusal of the first of two checks that refuses
 abbrev pub or_refused : Option Refusal → Option Refusal → Option Refusal

@@ -1,11 +1,16 @@
 -- Words of a text by their places, and where a word first stands. Assumes nothing.
-use Rattle.std.specs.Prelude.{◌≡◌, ℕ, ◌+◌, ◌<◌, cond, List, [], ◌∷◌, ◌++◌, length, take, drop, Some, None, Option, ◌≢◌, slice_index_or}
+use Rattle.std.specs.Prelude.{◌≡◌, ℕ, ◌+◌, ◌<◌, cond, List, [], ◌∷◌, ◌++◌, map, length, take, drop, Some, None, Option, ◌≢◌, slice_index_or}
 use Rattle.std.specs.Str.{bytes_eq}
 use Rattle.sheets.specs.declared.part.Part.{Part}
+use Rattle.sheets.specs.declared.part.Words.{Words}
 
 -- the characters of a part
 unfoldable pub part_of : List ℕ → Part → List ℕ
 part_of text p = take p.size (drop p.start text)
+
+-- what words spell
+abbrev pub words : Words → List (List ℕ)
+words w = map (part_of w.text.now) w.parts.now
 
 -- the first place of a word, counted from i
 unfoldable pub position_from : ℕ → List ℕ → List (List ℕ) → Option ℕ

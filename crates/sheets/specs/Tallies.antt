@@ -26,10 +26,13 @@ pub record Count : Type 0 where
   pub symbols : ℕ
   pub names : List (List ℕ)
 
+-- what a tally counts, beside names
+abbrev pub counting : List (List ℕ) → Tally → Count
+counting names t = record { elements = t.elements; operands = t.operands; symbols = t.symbols; names = names }
+
 -- what a tally means, its names being parts of the text
 abbrev pub told : List ℕ → List Part → Tally → Count
-told text names t =
-    record { elements = t.elements; operands = t.operands; symbols = t.symbols; names = map (part_of text) (take t.names names) }
+told text names t = counting (map (part_of text) (take t.names names)) t
 
 -- a tally that goes over no limit
 pub record Within (t : Tally) : Type 0 where
@@ -55,10 +58,10 @@ abbrev pub long_name : List ℕ → Token → List Fault
 long_name s t = when (sort_limited (sort_of t.role) && nat_lt 16 (word s t).size) (fault ((word s t).start + 1) Cause.LongName)
 
 -- how many there are of what a token begins
-abbrev pub opened_before : Opened → ℕ → ℕ → ℕ
-opened_before Opened.Nothing elements operands = 0
-opened_before Opened.Element elements operands = elements
-opened_before Opened.Operand elements operands = operands
+abbrev pub opened_before : Option Opened → ℕ → ℕ → ℕ
+opened_before None elements operands = 0
+opened_before (Some Opened.Element) elements operands = elements
+opened_before (Some Opened.Operand) elements operands = operands
 
 -- the ninth element or right side operand, at its first character
 abbrev pub ninth : ℕ → ℕ → Token → List Fault
@@ -70,21 +73,21 @@ absent None = true
 absent (Some k) = false
 
 -- a name that is new after 64 others, at its first character
-abbrev pub extra_name : List ℕ → Count → Token → List Fault
-extra_name s n t =
-    when (brings_name s t && (nat_le 64 (length n.names) && absent (position (spelling s t) n.names))) (fault ((word s t).start + 1) Cause.TooMany)
+abbrev pub extra_name : List ℕ → List (List ℕ) → Token → List Fault
+extra_name s names t =
+    when (brings_name s t && (nat_le 64 (length names) && absent (position (spelling s t) names))) (fault ((word s t).start + 1) Cause.TooMany)
 
 -- how many elements a token begins: one or none
-abbrev pub elements_opened : Opened → ℕ
-elements_opened Opened.Nothing = 0
-elements_opened Opened.Element = 1
-elements_opened Opened.Operand = 0
+abbrev pub elements_opened : Option Opened → ℕ
+elements_opened None = 0
+elements_opened (Some Opened.Element) = 1
+elements_opened (Some Opened.Operand) = 0
 
 -- how many right side operands a token begins: one or none
-abbrev pub operands_opened : Opened → ℕ
-operands_opened Opened.Nothing = 0
-operands_opened Opened.Element = 0
-operands_opened Opened.Operand = 1
+abbrev pub operands_opened : Option Opened → ℕ
+operands_opened None = 0
+operands_opened (Some Opened.Element) = 0
+operands_opened (Some Opened.Operand) = 1
 
 -- what a token spells is a literal
 abbrev pub sort_literal : Sort → Bool
@@ -142,7 +145,7 @@ module _ (reads : List ℕ → Result ℕ TextFault) where
   -- the faults of a token where n is counted before it
   unfoldable pub token_faults : List ℕ → Count → Token → List Fault
   token_faults s n t =
-      ((long_name s t ++ ninth n.elements n.operands t) ++ extra_name s n t) ++ literal_faults (literal s t) n.symbols t
+      ((long_name s t ++ ninth n.elements n.operands t) ++ extra_name s n.names t) ++ literal_faults (literal s t) n.symbols t
 
   -- what is counted with a token
   unfoldable pub with_token : List ℕ → Count → Token → Count

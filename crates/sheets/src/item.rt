@@ -3,11 +3,12 @@ ghost use Rattle.std.specs.Prelude.{◌≡◌, ◌^◌, ◌<◌, length};
 ghost use Rattle.sheets.specs.Items.{sort_of, opened_by, Inside, indirect, word, sort_brings, brings_name, closed, contents};
 
 use crate::part::Part;
+use lines::lexeme::Lexeme;
 use lines::role::Role;
 use lines::token::Token;
 
 // What a token spells: a label, a name, the label or name of a go-to, symbols, or nothing of these.
-#[derive(Clone, Copy, Drop)]
+#[derive(Clone, Copy, Debug, PartialEq, Eq, Drop)]
 pub enum Sort {
     Other,
     Label,
@@ -16,10 +17,9 @@ pub enum Sort {
     Literal,
 }
 
-// What a token begins: an element, a right side operand, or neither.
-#[derive(Clone, Copy, Drop)]
+// What a token may begin: an element, or a right side operand.
+#[derive(Clone, Copy, Debug, PartialEq, Eq, Drop)]
 pub enum Opened {
-    Nothing,
     Element,
     Operand,
 }
@@ -37,13 +37,13 @@ pub fn sort_of(role: Role) -> Sort
     }
 }
 
-pub fn opened_by(role: Role) -> Opened
+pub fn opened_by(role: Role) -> Option<Opened>
     ensures { result ≡ opened_by role }
 {
     match role {
-        Role::Element | Role::LiteralElement | Role::Star => Opened::Element,
-        Role::Operand | Role::LiteralOperand => Opened::Operand,
-        _ => Opened::Nothing,
+        Role::Element | Role::LiteralElement | Role::Star => Some(Opened::Element),
+        Role::Operand | Role::LiteralOperand => Some(Opened::Operand),
+        _ => None,
     }
 }
 
@@ -57,8 +57,7 @@ pub fn is_indirect(line: &[u8], token: Token) -> bool
 
 // The name or label of a token, without `$`.
 pub fn word(line: &[u8], token: Token) -> Part
-    requires inside { Inside line.now token }
-    requires small { length line.now < 2 ^ 32 }
+    requires { Inside line.now token }
     ensures { result ≡ word line.now token }
 {
     if is_indirect(line, token) {
@@ -75,30 +74,26 @@ pub fn word(line: &[u8], token: Token) -> Part
 }
 
 // Whether a name may stand where the token does: the label of a go-to is one only after `$`.
-fn may_name(line: &[u8], token: Token) -> bool
-    requires { Inside line.now token }
-    ensures { result ≡ sort_brings (sort_of token.role) (indirect line.now token) }
+fn may_name(lexeme: Lexeme<'_>) -> bool
+    ensures { result ≡ sort_brings (sort_of lexeme.entry.token.role) (indirect lexeme.entry.line.now lexeme.entry.token) }
 {
-    match sort_of(token.role) {
+    match sort_of(lexeme.token.role) {
         Sort::Name => true,
-        Sort::Target => is_indirect(line, token),
+        Sort::Target => is_indirect(lexeme.line, lexeme.token),
         _ => false,
     }
 }
 
 // Whether the token has a name.
-pub(crate) fn brings_name(line: &[u8], token: Token) -> bool
-    requires inside { Inside line.now token }
-    requires small { length line.now < 2 ^ 32 }
-    ensures { result ≡ brings_name line.now token }
+pub(crate) fn brings_name(lexeme: Lexeme<'_>) -> bool
+    ensures { result ≡ brings_name lexeme.entry.line.now lexeme.entry.token }
 {
-    may_name(line, token) && word(line, token).size > 0
+    may_name(lexeme) && word(lexeme.line, lexeme.token).size > 0
 }
 
 // Whether a literal has both its quotes.
 pub fn is_closed(line: &[u8], token: Token) -> bool
-    requires inside { Inside line.now token }
-    requires small { length line.now < 2 ^ 32 }
+    requires { Inside line.now token }
     ensures { result ≡ closed line.now token }
 {
     token.size > 1 && line[token.start + token.size - 1] == b'"'
@@ -106,7 +101,7 @@ pub fn is_closed(line: &[u8], token: Token) -> bool
 
 // The characters between the quotes of a literal.
 pub fn contents(token: Token) -> Part
-    requires start_bound { token.start < 2 ^ 32 }
+    requires start_bound { token.start < 2 ^ 63 }
     requires lt_size { 1 < token.size }
     ensures { result ≡ contents token }
 {

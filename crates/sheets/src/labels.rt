@@ -1,115 +1,74 @@
 // The labels that a sheet goes to: whether statements have them.
-ghost use Rattle.std.specs.Prelude.{◌≡◌, ◌^◌, ◌<◌, ◌≤◌, map, length, take};
+ghost use Rattle.std.specs.Prelude.{◌≡◌, ◌^◌, ◌<◌, length};
 ghost use Rattle.lines.specs.Tokens.{tokens};
-ghost use Rattle.sheets.specs.Items.{Inside};
 ghost use Rattle.sheets.specs.Labels.{goes_to, known, token_unknown, unknown_from, lines_unknown};
-ghost use Rattle.sheets.specs.Parts.{part_of};
+ghost use Rattle.sheets.specs.Parts.{words};
 ghost use Rattle.sheets.specs.Sheets.{lines_of};
 
-use crate::fault::{Cause, Fault, Refusal};
+use crate::fault::{Cause, Fault, LineFault, Refusal};
 use crate::item::is_indirect;
-use crate::part::{Part, find_word, part_of, same_text};
-use crate::reader::line_end;
-use lines::reading::{LabelReading, Reading};
+use crate::part::{Part, Words, part_of};
+use lines::lexeme::Lexeme;
 use lines::role::Role;
-use lines::token::{Token, token_at};
+use lines::text::Lines;
+use lines::tokens::Tokens;
 
 // Whether the token is the label to start at, or a go-to's without `$`.
-fn goes_to(line: &[u8], token: Token) -> bool
-    requires { Inside line.now token }
-    ensures { result ≡ goes_to line.now token }
+fn goes_to(lexeme: Lexeme<'_>) -> bool
+    ensures { result ≡ goes_to lexeme.entry.line.now lexeme.entry.token }
 {
-    match token.role {
+    match lexeme.token.role {
         Role::Start => true,
-        Role::Both | Role::OnS | Role::OnF => !is_indirect(line, token),
+        Role::Both | Role::OnS | Role::OnF => !is_indirect(lexeme.line, lexeme.token),
         _ => false,
     }
 }
 
-// Whether a word is END, or the label of one of the first `statements` statements.
-fn is_known(text: &[u8], labels: &[Part], statements: usize, word: &[u8]) -> bool
-    requires { statements ≤ length labels.now }
-    ensures { result ≡ known (map (part_of text.now) (take statements labels.now)) word.now }
+// Whether a word is END, or one of the labels.
+fn is_known(labels: Words<'_>, word: &[u8]) -> bool
+    ensures { result ≡ known (words labels.entry) word.now }
 {
-    if same_text(word, b"END") {
-        return true;
-    }
-    match find_word(text, &labels[0..statements], word) {
-        Some(_) => true,
-        None => false,
-    }
+    word == b"END".as_slice() || labels.find(word).is_some()
 }
 
 // A label that no statement has, at its start.
-fn token_unknown(
-    text: &[u8],
-    labels: &[Part],
-    statements: usize,
-    line: &[u8],
-    token: Token,
-) -> Option<Fault>
-    requires inside { Inside line.now token }
-    requires small { length line.now < 2 ^ 32 }
-    requires room { statements ≤ length labels.now }
-    ensures { result ≡ token_unknown (map (part_of text.now) (take statements labels.now)) line.now token }
+fn token_unknown(labels: Words<'_>, lexeme: Lexeme<'_>) -> Option<Fault>
+    ensures { result ≡ token_unknown (words labels.entry) lexeme.entry.line.now lexeme.entry.token }
 {
-    if !goes_to(line, token) {
-        return None;
-    }
+    let token = lexeme.token;
     let label = part_of(
-        line,
+        lexeme.line,
         Part {
             start: token.start,
             size: token.size,
         },
     );
-    if is_known(text, labels, statements, label) {
-        None
-    } else {
-        Some(Fault {
-            column: token.start + 1,
-            cause: Cause::UnknownLabel,
-        })
-    }
+    (goes_to(lexeme) && !is_known(labels, label)).then_some(Fault {
+        column: token.start + 1,
+        cause: Cause::UnknownLabel,
+    })
 }
 
 // The first label of a line that no statement has.
-fn line_unknown(text: &[u8], labels: &[Part], statements: usize, line: &[u8]) -> Option<Fault>
-    requires small { length line.now < 2 ^ 32 }
-    requires room { statements ≤ length labels.now }
-    ensures { result ≡ unknown_from (map (part_of text.now) (take statements labels.now)) line.now (tokens line.now) }
+fn line_unknown(labels: Words<'_>, line: &[u8]) -> Option<Fault>
+    ensures { result ≡ unknown_from (words labels.entry) line.now (tokens line.now) }
 {
-    let mut at = 0;
-    let mut reading = Reading::Label(LabelReading::Begin);
-    while let Some(taken) = token_at(line, at, reading) {
-        if let Some(fault) = token_unknown(text, labels, statements, line, taken.token) {
+    for lexeme in Tokens::of(line) {
+        if let Some(fault) = token_unknown(labels, lexeme) {
             return Some(fault);
         }
-        at += taken.token.size;
-        reading = taken.reading;
     }
     None
 }
 
 // The first label of a sheet that no statement has.
-pub(crate) fn unknown_label(text: &[u8], labels: &[Part], statements: usize) -> Option<Refusal>
-    requires small { length text.now < 2 ^ 31 }
-    requires room { statements ≤ length labels.now }
-    ensures { result ≡ lines_unknown (map (part_of text.now) (take statements labels.now)) 1 (lines_of text.now) }
+pub(crate) fn unknown_label(labels: Words<'_>) -> Option<Refusal>
+    ensures { result ≡ lines_unknown (words labels.entry) 1 (lines_of labels.entry.text.now) }
 {
-    let mut from = 0;
-    let mut number = 1;
-    while from < text.len() {
-        let end = line_end(text, from);
-        if let Some(fault) = line_unknown(text, labels, statements, &text[from..end]) {
-            return Some(Refusal {
-                line: number,
-                column: fault.column,
-                cause: fault.cause,
-            });
+    for (i, line) in Lines::of(labels.text).enumerate() {
+        if let Some(fault) = line_unknown(labels, line.characters) {
+            return Some(Refusal::from(LineFault { line: i + 1, fault }));
         }
-        from = end + 1;
-        number += 1;
     }
     None
 }

@@ -6,7 +6,7 @@ ghost use Rattle.sheets.specs.Tallies.{counts};
 use crate::check::Carried;
 use crate::fault::{Cause, Refusal};
 use crate::labels::unknown_label;
-use crate::part::Part;
+use crate::part::{Part, Words};
 use crate::reader::check_lines;
 use symbols::kind::Kind;
 
@@ -21,11 +21,7 @@ pub struct Outline {
 pub fn nowhere(cause: Cause) -> Refusal
     ensures { result ≡ nowhere cause }
 {
-    Refusal {
-        line: 0,
-        column: 0,
-        cause,
-    }
+    Refusal::nowhere(cause)
 }
 
 // Checks the text of a sheet, its literals as symbols of the kind.
@@ -33,15 +29,16 @@ pub fn survey<K: Kind>(kind: &K, text: &[u8]) -> Result<Outline, Refusal>
     ensures { Surveyed (text_refusal (counts K.Kind.meant K.Kind.wide) text.now) (brought (counts K.Kind.meant K.Kind.wide) text.now) text.now result }
 {
     if text.len() > 16384 {
-        return Err(nowhere(Cause::TextLong));
+        return Err(Refusal::nowhere(Cause::TextLong));
     }
     let mut names = [Part { start: 0, size: 0 }; 65];
     let mut labels = [Part { start: 0, size: 0 }; 129];
     let carried = check_lines(kind, text, &mut names, &mut labels)?;
     if !carried.ended {
-        return Err(nowhere(Cause::End));
+        return Err(Refusal::nowhere(Cause::End));
     }
-    if let Some(refusal) = unknown_label(text, &labels, carried.statements) {
+    let known = Words::first(text, &labels, carried.statements);
+    if let Some(refusal) = unknown_label(known) {
         return Err(refusal);
     }
     Ok(Outline {

@@ -1,13 +1,13 @@
-use Rattle.std.proofs.Common.{Bool, map, take, sym, ap, ◌∙◌}
+use Rattle.std.proofs.Common.{Bool, sym, ap, ◌∙◌}
 use Rattle.sheets.specs.Faults.{first}
 use Rattle.sheets.specs.LineFaults.{form_faults}
-use Rattle.sheets.specs.Parts.{part_of}
+use Rattle.sheets.specs.Parts.{words}
 use Rattle.sheets.proofs.LineLaws.{form_first}
 use Rattle.sheets.proofs.check.form_fault.Goals as goal
 
 pub returns : goal.returns
 returns c =
-    let labels = map (part_of c.args.text.now) (take c.args.before.statements c.args.labels.now) in
+    let labels = words c.args.labels in
     form_first c.args.before.statements labels c.args.line.now c.no_statement.result c.extra_statement.result c.second_label.result
     c.least.result c.least-2.result c.if-is_idle.ensures c.least.ensures c.least-2.ensures c.no_statement.ensures
     c.extra_statement.ensures c.second_label.ensures

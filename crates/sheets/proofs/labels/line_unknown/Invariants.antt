@@ -1,14 +1,11 @@
-use Rattle.std.proofs.Common.{◌≡◌, ◌-◌, ◌≤◌, map, length, take, drop}
-use Rattle.lines.specs.Tokens.{tokens, tokens_from}
+use Rattle.std.proofs.Common.{◌≡◌}
+use Rattle.lines.specs.Tokens.{tokens}
+use Rattle.lines.specs.Walks.{tokens_left}
 use Rattle.sheets.specs.Labels.{unknown_from}
-use Rattle.sheets.specs.Parts.{part_of}
+use Rattle.sheets.specs.Parts.{words}
 use Rattle.sheets.proofs.labels.line_unknown.Given as goal
 
-abbrev pub invariant-loop-taken : goal.invariant-loop-taken
-invariant-loop-taken l =
-    (l.at ≤ length l.line)
-    × (unknown_from (map (part_of l.text) (take l.statements l.labels)) l.line (tokens l.line)
-    ≡ unknown_from (map (part_of l.text) (take l.statements l.labels)) l.line (tokens_from l.reading l.at (drop l.at l.line)))
-
-abbrev pub decreases-loop-taken : goal.decreases-loop-taken
-decreases-loop-taken l = length l.line - l.at
+abbrev pub invariant-loop-lexeme : goal.invariant-loop-lexeme
+invariant-loop-lexeme l =
+    (l.lexeme-iterator.line.now ≡ l.line)
+    × (unknown_from (words l.labels) l.line (tokens l.line) ≡ unknown_from (words l.labels) l.line (tokens_left l.lexeme-iterator))

@@ -1,9 +1,9 @@
-use Rattle.std.proofs.Common.{◌≡◌, ℕ, List, refl, ◌∙◌, arith}
+use Rattle.std.proofs.Common.{◌≡◌, ℕ, List, sym, ap, ◌∙◌, arith}
 use Rattle.std.proofs.lemmas.Result.{err_from_is_err_and}
 use Rattle.lines.specs.Lines.{longest}
 use Rattle.lines.specs.Tokens.{tokens}
 use Rattle.sheets.specs.Faults.{first}
-use Rattle.sheets.specs.Tallies.{Count, counts, told, faults_from, first_from}
+use Rattle.sheets.specs.Tallies.{Count, counts, told, faults_from, first_from, count_from}
 use Rattle.lines.proofs.Colours.{tokenized}
 use Rattle.sheets.proofs.Ascents.{first_ascends}
 use Rattle.sheets.proofs.Literals.{counts_bounded}
@@ -17,51 +17,54 @@ ascends : (g : given.Over) (s : List ℕ) (n : Count)
 ascends g s n =
     first_ascends (counts g.K.Kind.meant g.K.Kind.wide) (counts_bounded g.K.Kind.meant g.K.Kind.wide) s n 0 (longest s) (tokens s) (tokenized s).abut
 
-pub loop-taken-init : goal.loop-taken-init
-loop-taken-init g c = (omega arith, c.requires.within, refl, refl)
-
 pub take_token-requires : goal.take_token-requires
 take_token-requires g c =
-    let t = c.in-Some.ensures in
-    let a = t.start in
-    let b = t.within in
     record {
-      inside = record { some = t.some; within = omega arith };
-      small = c.requires.small;
-      place = c.requires.place;
-      lies = c.requires.lies;
-      room = omega (arith, c.loop-taken.auto.names);
-      within = c.loop-taken.invariant.1;
+      same = c.in-Some.ensures.steps.line ∙ c.loop-lexeme.invariant.0;
+      room = omega (arith, c.loop-lexeme.auto.names);
+      within = c.loop-lexeme.invariant.1;
     }
+
+pub loop-lexeme-init : goal.loop-lexeme-init
+loop-lexeme-init g c =
+    let reads = counts g.K.Kind.meant g.K.Kind.wide in
+    let s = c.args.line.characters.now in
+    let n = told c.args.line.text.now c.args.names.now c.args.before in
+    let e = c.of-lexeme-items.ensures in
+    rw c.into_iter-lexeme-iterator.ensures.into_iter_gives
+    (e.line, c.requires.within, ap (first_from reads s n) (sym e.tokens), ap (count_from reads s n) (sym e.tokens))
 
 pub returns-in_err-tally : goal.returns-in_err-tally
 returns-in_err-tally g c =
     let p = err_from_is_err_and c.from_residual.result c.from_residual.ensures.1 in
+    let inv = c.loop-lexeme.invariant in
     rw (p.1, p.2)
-    (first_here (counts g.K.Kind.meant g.K.Kind.wide) c.args.line.now (told c.args.text.now c.loop-taken.names c.loop-taken.tally)
-    c.loop-taken.reading c.loop-taken.at c.in-Some.taken c.in-Some.ensures _ c.in_err-tally.field-0.0 (ascends g c.args.line.now (told c.args.text.now c.args.names.now c.args.before) ∙ c.loop-taken.invariant.2)
-    c.in_err-tally.ensures)
+    (first_here (counts g.K.Kind.meant g.K.Kind.wide) c.args.line.characters.now (told c.args.line.text.now c.loop-lexeme.names c.loop-lexeme.tally)
+    c.loop-lexeme.lexeme-iterator inv.0 c.in-Some.lexeme c.next.new.self c.in-Some.ensures.steps _ c.in_err-tally.field-0.0
+    (ascends g c.args.line.characters.now (told c.args.line.text.now c.args.names.now c.args.before) ∙ inv.2) c.in_err-tally.ensures)
 
-pub loop-taken-preserved : goal.loop-taken-preserved
-loop-taken-preserved g c =
-    let t = c.in-Some.ensures in
+pub loop-lexeme-preserved : goal.loop-lexeme-preserved
+loop-lexeme-preserved g c =
+    let read = c.in-Some.ensures.steps in
+    let inv = c.loop-lexeme.invariant in
     let k = c.in_ok-tally.ensures in (
-      t.within,
+      read.same ∙ inv.0,
       k.2,
-      first_on (counts g.K.Kind.meant g.K.Kind.wide) c.args.line.now (told c.args.text.now c.loop-taken.names c.loop-taken.tally)
-          c.loop-taken.reading c.loop-taken.at c.in-Some.taken t _ (told c.args.text.now c.take_token.new.names c.in_ok-tally.tally)
-          c.loop-taken.invariant.2 k.0 k.1,
-      count_on (counts g.K.Kind.meant g.K.Kind.wide) c.args.line.now (told c.args.text.now c.loop-taken.names c.loop-taken.tally)
-          c.loop-taken.reading c.loop-taken.at c.in-Some.taken t _ (told c.args.text.now c.take_token.new.names c.in_ok-tally.tally)
-          c.loop-taken.invariant.3 k.1,
+      first_on (counts g.K.Kind.meant g.K.Kind.wide) c.args.line.characters.now (told c.args.line.text.now c.loop-lexeme.names c.loop-lexeme.tally)
+          c.loop-lexeme.lexeme-iterator inv.0 c.in-Some.lexeme c.next.new.self read _ (told c.args.line.text.now c.take_token.new.names c.in_ok-tally.tally)
+          inv.2 k.0 k.1,
+      count_on (counts g.K.Kind.meant g.K.Kind.wide) c.args.line.characters.now (told c.args.line.text.now c.loop-lexeme.names c.loop-lexeme.tally)
+          c.loop-lexeme.lexeme-iterator inv.0 c.in-Some.lexeme c.next.new.self read _ (told c.args.line.text.now c.take_token.new.names c.in_ok-tally.tally)
+          inv.3 k.1,
     )
 
 pub returns : goal.returns
 returns g c =
-    let e = c.in_default.ensures in (
-      first_end (counts g.K.Kind.meant g.K.Kind.wide) c.args.line.now (told c.args.text.now c.loop-taken.names c.loop-taken.tally)
-          c.loop-taken.reading c.loop-taken.at _ (ascends g c.args.line.now (told c.args.text.now c.args.names.now c.args.before) ∙ c.loop-taken.invariant.2) e,
-      count_end (counts g.K.Kind.meant g.K.Kind.wide) c.args.line.now (told c.args.text.now c.loop-taken.names c.loop-taken.tally)
-          c.loop-taken.reading c.loop-taken.at _ c.loop-taken.invariant.3 e,
-      c.loop-taken.invariant.1,
+    let e = c.in-None.ensures.steps.0 in
+    let inv = c.loop-lexeme.invariant in (
+      first_end (counts g.K.Kind.meant g.K.Kind.wide) c.args.line.characters.now (told c.args.line.text.now c.loop-lexeme.names c.loop-lexeme.tally)
+          c.loop-lexeme.lexeme-iterator inv.0 _ (ascends g c.args.line.characters.now (told c.args.line.text.now c.args.names.now c.args.before) ∙ inv.2) e,
+      count_end (counts g.K.Kind.meant g.K.Kind.wide) c.args.line.characters.now (told c.args.line.text.now c.loop-lexeme.names c.loop-lexeme.tally)
+          c.loop-lexeme.lexeme-iterator inv.0 _ inv.3 e,
+      inv.1,
     )

@@ -1,15 +1,13 @@
-use Rattle.std.proofs.Common.{◌≡◌, ◌-◌, ◌≤◌, length, drop}
-use Rattle.lines.specs.Tokens.{tokens, tokens_from}
+use Rattle.std.proofs.Common.{◌≡◌}
+use Rattle.lines.specs.Tokens.{tokens}
+use Rattle.lines.specs.Walks.{tokens_left}
 use Rattle.sheets.specs.Tallies.{counts, told, Within, first_from, count_from}
 use Rattle.sheets.proofs.tally.check_tokens.Given as goal
 
-abbrev pub invariant-loop-taken : goal.invariant-loop-taken
-invariant-loop-taken g l =
-    (l.at ≤ length l.line) × Within l.tally
-    × (first_from (counts g.K.Kind.meant g.K.Kind.wide) l.line (told l.text l.initial.names l.initial.tally) (tokens l.line)
-    ≡ first_from (counts g.K.Kind.meant g.K.Kind.wide) l.line (told l.text l.names l.tally) (tokens_from l.reading l.at (drop l.at l.line)))
-    × (count_from (counts g.K.Kind.meant g.K.Kind.wide) l.line (told l.text l.initial.names l.initial.tally) (tokens l.line)
-    ≡ count_from (counts g.K.Kind.meant g.K.Kind.wide) l.line (told l.text l.names l.tally) (tokens_from l.reading l.at (drop l.at l.line)))
-
-abbrev pub decreases-loop-taken : goal.decreases-loop-taken
-decreases-loop-taken g l = length l.line - l.at
+abbrev pub invariant-loop-lexeme : goal.invariant-loop-lexeme
+invariant-loop-lexeme g l =
+    (l.lexeme-iterator.line.now ≡ l.line.characters.now) × Within l.tally
+    × (first_from (counts g.K.Kind.meant g.K.Kind.wide) l.line.characters.now (told l.line.text.now l.initial.names l.initial.tally) (tokens l.line.characters.now)
+    ≡ first_from (counts g.K.Kind.meant g.K.Kind.wide) l.line.characters.now (told l.line.text.now l.names l.tally) (tokens_left l.lexeme-iterator))
+    × (count_from (counts g.K.Kind.meant g.K.Kind.wide) l.line.characters.now (told l.line.text.now l.initial.names l.initial.tally) (tokens l.line.characters.now)
+    ≡ count_from (counts g.K.Kind.meant g.K.Kind.wide) l.line.characters.now (told l.line.text.now l.names l.tally) (tokens_left l.lexeme-iterator))

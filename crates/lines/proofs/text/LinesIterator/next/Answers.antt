@@ -13,4 +13,3 @@ returns-clause-steps c =
     let l = lines_at c.args.self.now.text.now c.args.self.now.from c.line_end-end.result h c.line_end-end.ensures.above c.line_end-end.ensures.value in
     let long : c.line_end-end.result - c.args.self.now.from ≤ length (drop c.args.self.now.from c.args.self.now.text.now) = rw length-drop (omega arith) in
     record { from = refl; text = refl; same = refl; on = rw length-take-le (omega arith); line = l }
-

@@ -16,7 +16,6 @@ use symbols::text::read_text;
 
 // Whether a token is a literal that has both its quotes.
 fn is_literal(lexeme: Lexeme<'_>) -> bool
-    requires { length lexeme.line.now < 2 ^ 32 }
     ensures { result ≡ is_literal lexeme.entry.line.now lexeme.entry.token }
 {
     matches!(sort_of(lexeme.token.role), Sort::Literal) && is_closed(lexeme.line, lexeme.token)

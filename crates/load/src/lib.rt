@@ -15,7 +15,7 @@ use constants::write_constants;
 use rows::naming::Naming;
 use rows::writer::write_rows;
 use sheets::fault::{Cause, Refusal};
-use sheets::outline::{nowhere, survey};
+use sheets::outline::survey;
 use symbols::kind::Kind;
 use tables::row::Row;
 use tables::sheet::Sheet;
@@ -32,7 +32,7 @@ pub fn load<K: Kind>(
     ensures constants { constants.new ≡ unless (load_refusal K.Kind.meant K.Kind.WIDTH (length rows.old) (length constants.old) text.now) constants.old (over (sheet_symbols K.Kind.meant K.Kind.WIDTH text.now) constants.old) }
 {
     if rows.len() < 128 || constants.len() < 4096 {
-        return Err(nowhere(Cause::ShortArea));
+        return Err(Refusal::nowhere(Cause::ShortArea));
     }
     let outline = survey(kind, text)?;
     let naming = Naming::new(text, &outline);

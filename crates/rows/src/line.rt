@@ -16,7 +16,6 @@ use tables::row::{Operand, RowOf};
 
 // How many symbols a token adds to the constants.
 fn symbols_of<K: Kind>(kind: &K, lexeme: Lexeme<'_>) -> usize
-    requires { length lexeme.line.now < 2 ^ 32 }
     ensures { result ≡ length (token_symbols K.Kind.meant K.Kind.WIDTH lexeme.entry.line.now lexeme.entry.token) }
 {
     literal(kind, lexeme.line, lexeme.token).unwrap_or(0)

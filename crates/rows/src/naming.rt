@@ -82,7 +82,6 @@ impl<'a> Naming<'a> {
 
     // The name's number, counted from 1, 0 where it is no name of the sheet.
     fn name_number(&self, lexeme: Lexeme<'_>) -> usize
-        requires { length lexeme.line.now < 2 ^ 32 }
         ensures { result ≡ name_number (names_of self.now) lexeme.entry.line.now lexeme.entry.token }
     {
         let name = part_of(lexeme.line, word(lexeme.line, lexeme.token));
@@ -90,7 +89,6 @@ impl<'a> Naming<'a> {
     }
 
     fn reference_of(&self, lexeme: Lexeme<'_>) -> Reference
-        requires { length lexeme.line.now < 2 ^ 32 }
         ensures { result ≡ reference_of (names_of self.now) lexeme.entry.line.now lexeme.entry.token }
     {
         let number = self.name_number(lexeme);
@@ -112,7 +110,6 @@ impl<'a> Naming<'a> {
     }
 
     fn variable_of(&self, lexeme: Lexeme<'_>, form: Form) -> Item
-        requires { length lexeme.line.now < 2 ^ 32 }
         ensures { result ≡ variable (name_number (names_of self.now) lexeme.entry.line.now lexeme.entry.token) form }
     {
         Item::Variable(Variable {
@@ -122,7 +119,6 @@ impl<'a> Naming<'a> {
     }
 
     fn contents_of(&self, lexeme: Lexeme<'_>) -> Operand
-        requires { length lexeme.line.now < 2 ^ 32 }
         ensures { result ≡ Operand.Contents (reference_of (names_of self.now) lexeme.entry.line.now lexeme.entry.token) }
     {
         Operand::Contents(self.reference_of(lexeme))
@@ -130,7 +126,6 @@ impl<'a> Naming<'a> {
 
     // Where a go-to leads.
     fn target_of(&self, lexeme: Lexeme<'_>) -> Target
-        requires { length lexeme.line.now < 2 ^ 32 }
         ensures { result ≡ target_of (names_of self.now) (labels_of self.now) lexeme.entry.line.now lexeme.entry.token }
     {
         if is_indirect(lexeme.line, lexeme.token) {

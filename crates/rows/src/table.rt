@@ -8,7 +8,7 @@ ghost use Rattle.symbols.specs.Answers.{unless, over};
 use crate::naming::Naming;
 use crate::writer::write_rows;
 use sheets::fault::{Cause, Refusal};
-use sheets::outline::{Outline, nowhere, survey};
+use sheets::outline::{Outline, survey};
 use sheets::part::Part;
 use symbols::kind::Kind;
 use tables::row::RowOf;
@@ -23,7 +23,7 @@ pub fn tabulate<K: Kind>(
     ensures rows { rows.new ≡ unless (table_refusal (counts K.Kind.meant K.Kind.WIDTH) (length rows.old) text.now) rows.old (over (table_rows K.Kind.meant K.Kind.WIDTH text.now) rows.old) }
 {
     if rows.len() < 128 {
-        return Err(nowhere(Cause::ShortArea));
+        return Err(Refusal::nowhere(Cause::ShortArea));
     }
     let outline = survey(kind, text)?;
     let _ = write_rows(kind, &Naming::new(text, &outline), rows);

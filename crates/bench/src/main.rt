@@ -61,7 +61,7 @@ fn take_lines(
     kept: &mut Kept,
 ) -> anyhow::Result<()> {
     for (number, line) in (1..).zip(Lines::of(text)) {
-        take_line(rt, number, line.line, brackets, kept)?;
+        take_line(rt, number, line.characters, brackets, kept)?;
     }
     Ok(())
 }

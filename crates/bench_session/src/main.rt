@@ -13,7 +13,7 @@ use crate::work::{STEPS, work};
 use lines::text::Lines;
 use load::load;
 use rows::row::blank_row;
-use session::entry::blank_entry;
+use session::entry::Entry;
 use session::session::Session;
 use slots::SlotStore;
 use std::io::Read;
@@ -41,7 +41,7 @@ fn carry_out<'a>(
     let mut string = vec![in rt.alloc(); blank; LONGEST]?;
     let mut work_constants = vec![in rt.alloc(); blank; 8 * LONGEST]?;
     let mut contents = vec![in rt.alloc(); blank; LONGEST]?;
-    let mut entries = vec![in rt.alloc(); blank_entry(); STEPS + 1]?;
+    let mut entries = vec![in rt.alloc(); Entry::default(); STEPS + 1]?;
     let store = SlotStore::new(kept.as_mut_slice(), NAMES, LONGEST);
     let mut session = Session::open(LogChars, sheet, rows, constants, store);
     let outcome = work(
@@ -72,7 +72,7 @@ fn carry_out<'a>(
 
 // The line behind the sheet, null where there is none.
 fn line_behind(text: &[u8]) -> &[u8] {
-    Lines::of(text).next().map_or(&[], |line| line.line)
+    Lines::of(text).next().map_or(&[], |line| line.characters)
 }
 
 fn run(rt: &HostRuntime) -> anyhow::Result<()> {

@@ -46,7 +46,7 @@ impl<'a> fmt::Display for Refused<'a> {
             return write!(f, "\n{cause}");
         }
         let place = Lines::of(self.text).nth(line - 1);
-        let shown = Printable(place.map_or(&[], |place| place.line));
+        let shown = Printable(place.map_or(&[], |place| place.characters));
         write!(f, "\n{shown}\n{:>column$} {cause}", '^')
     }
 }

@@ -1,6 +1,6 @@
 // The ends of balanced parts.
 ghost use Rattle.std.specs.Prelude.{◌≡◌, ◌+◌, ◌<◌, ◌≤◌, length};
-ghost use Rattle.placings.specs.Pattern.{part, opens, closes, openings, closings};
+ghost use Rattle.placings.specs.Pattern.{part, openings, closings};
 ghost use Rattle.scan.specs.Ends.{Next, balanced_end, group_end, open_behind};
 
 use crate::search::Search;
@@ -9,20 +9,6 @@ use symbols::role::Role;
 
 // How many symbols are counted at once. Where more groups are open than that, none of these symbols can close the last.
 const BLOCK: usize = 64;
-
-// One for a symbol that opens.
-fn opening(role: Role) -> u8
-    ensures { result ≡ opens role }
-{
-    u8::from(role == Role::Opening)
-}
-
-// One for a symbol that closes.
-fn closing(role: Role) -> u8
-    ensures { result ≡ closes role }
-{
-    u8::from(role == Role::Closing)
-}
 
 // How many symbols of a block open, and how many close. The loop has no way out and counts in bytes, so that it is compiled to vector instructions.
 fn tally<K: Kind>(kind: &K, block: &[K::Symbol]) -> (u8, u8)
@@ -34,8 +20,8 @@ fn tally<K: Kind>(kind: &K, block: &[K::Symbol]) -> (u8, u8)
     let mut closed: u8 = 0;
     for symbol in block {
         let role = kind.role(*symbol);
-        opened += opening(role);
-        closed += closing(role);
+        opened += role.opens();
+        closed += role.closes();
     }
     (opened, closed)
 }

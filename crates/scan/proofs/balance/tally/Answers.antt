@@ -10,7 +10,7 @@ overflow_add-opened g c =
     let few = openings_few (g.K.Kind.acts c.args.kind.now) (take c.loop-symbol.symbol-index c.args.block.now) in
     let long = length-take-le c.loop-symbol.symbol-index c.args.block.now (omega arith) in
     let one = opens_one c.role-role.result in
-    let h : c.loop-symbol.opened + c.opening-opened.result ≤ 64 = omega arith in
+    let h : c.loop-symbol.opened + c.opens-opened.result ≤ 64 = omega arith in
     Fits-below {n = 64} tt h
 
 pub overflow_add-closed : goal.overflow_add-closed
@@ -18,7 +18,7 @@ overflow_add-closed g c =
     let few = closings_few (g.K.Kind.acts c.args.kind.now) (take c.loop-symbol.symbol-index c.args.block.now) in
     let long = length-take-le c.loop-symbol.symbol-index c.args.block.now (omega arith) in
     let one = closes_one c.role-role.result in
-    let h : c.loop-symbol.closed + c.closing-closed.result ≤ 64 = omega arith in
+    let h : c.loop-symbol.closed + c.closes-closed.result ≤ 64 = omega arith in
     Fits-below {n = 64} tt h
 
 pub loop-symbol-preserved : goal.loop-symbol-preserved
@@ -28,6 +28,6 @@ loop-symbol-preserved g c =
     let l : c.loop-symbol.symbol-index < length block = omega arith in
     let a = openings_more role block c.loop-symbol.symbol-index c.symbol-item.result l c.symbol-item.is in
     let b = closings_more role block c.loop-symbol.symbol-index c.symbol-item.result l c.symbol-item.is in
-    let x = c.opening-opened.ensures ∙ ap opens c.role-role.ensures in
-    let y = c.closing-closed.ensures ∙ ap closes c.role-role.ensures in
+    let x = c.opens-opened.ensures ∙ ap opens c.role-role.ensures in
+    let y = c.closes-closed.ensures ∙ ap closes c.role-role.ensures in
     (omega arith, omega arith)

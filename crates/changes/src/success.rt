@@ -17,6 +17,7 @@ pub struct Success<'a, T> {
     pub ghost placed: { Placed (telling subject.now items.now start ends.now reference contents.now) } by { Placed-prop (telling subject.now items.now start ends.now reference contents.now) },
 }
 
+// By hand: `Clone` cannot be derived over a ghost field.
 impl<'a, T: Copy> Clone for Success<'a, T> {
     ghost is_clone = { λ success copy. copy ≡ success };
 

@@ -6,6 +6,7 @@ ghost use Rattle.patterns.specs.Gathering.{Gathers, end_with};
 use scan::element::{Element, Source};
 
 // A constant copied behind the others.
+// The area and how much of it is used stay two parameters: in one struct each function would have to say that it is the same area, of the same length.
 fn put_constant<T: Copy>(symbols: &[T], area: &mut [T], used: usize) -> Element
     requires { used + length symbols.now ≤ length area.old }
     ensures { (i : ℕ) → Gathers (length symbols.now) used i area.old area.new (Some (constant symbols.now)) (Some result) }

@@ -7,7 +7,7 @@ use std::error::Error;
 use std::fmt;
 use tables::places::first_places;
 
-// The elements of a pattern, in the first places.
+// The elements of a pattern, in the first places; a fixed array, as the host supplies all memory.
 #[derive(Clone, Copy)]
 pub struct Gathered {
     pub elements: [Element; 8],

@@ -55,6 +55,7 @@ fn replace<K: Kind, S: Store<Symbol = K::Symbol>>(
         success,
     };
     let count = renew(statement.listing, &after, success, side, contents, scratch)?;
+    // All fields: `..success` gets no proof over a ghost field.
     let renewed = Success {
         subject: success.subject,
         items: success.items,

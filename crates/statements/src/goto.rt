@@ -45,6 +45,7 @@ pub(crate) fn goes_to<K: Kind, R: Strings<Symbol = K::Symbol>>(
 {
     match target {
         None => Some(following(listing.rows.len(), number)),
+        // Two matches: an arm of a nested pattern has no equation that a proof can cite.
         Some(goal) => match goal {
             Target::To(next) => Some(next),
             Target::Through(name) => {

@@ -27,6 +27,7 @@ fn settle<K: Kind, S: Store<Symbol = K::Symbol>>(
     requires room { (S.Store.held store.now).longest ≤ length area.old }
     ensures { result ≡ next_of (settled K.Kind.chars statement.entry.listing.rows.now statement.entry.number statement.entry.row.now.on_success (written (told success.entry) (S.Store.held store.now))) }
 {
+    // Made here and not by the caller: passed on by `&`, its lifetimes get no proof.
     let after = After {
         store: &*store,
         success,

@@ -12,7 +12,7 @@ use crate::show::{show_entries, show_names, show_stop};
 use crate::work::{STEPS, work};
 use anyhow::anyhow;
 use load::{blank_row, load};
-use session::entry::blank_entry;
+use session::entry::Entry;
 use session::session::Session;
 use sheets::reader::line_end;
 use slots::SlotStore;
@@ -44,7 +44,7 @@ fn carry_out<'a>(
     let mut string = area(rt.alloc(), blank, LONGEST)?;
     let mut work_constants = area(rt.alloc(), blank, 8 * LONGEST)?;
     let mut contents = area(rt.alloc(), blank, LONGEST)?;
-    let mut entries = area(rt.alloc(), blank_entry(), STEPS + 1)?;
+    let mut entries = area(rt.alloc(), Entry::default(), STEPS + 1)?;
     let store = SlotStore::new(kept.as_mut_slice(), NAMES, LONGEST);
     let mut session = Session::open(LogChars, sheet, rows, constants, store);
     let outcome = work(

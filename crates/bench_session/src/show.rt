@@ -6,29 +6,12 @@ use stores::store::Store;
 use symbols::log::LogChars;
 use symbols::log_char::LogChar;
 use symbols::text::write_text;
-use tables::lookup::used_names;
 use tables::name::Name;
 use tables::sheet::NameTable;
 
-// An entry: its kind and number, and the start and the ends of a placing.
-fn show_entry(rt: &HostRuntime, entry: &Entry) -> anyhow::Result<()> {
-    let (kind, number) = (entry.kind.letter() as char, entry.number);
-    print!(rt; "{kind} {number}")?;
-    let count = entry.count.min(8);
-    if count > 0 {
-        let start = entry.start;
-        print!(rt; " {start}")?;
-    }
-    for end in &entry.ends[0..count] {
-        print!(rt; " {end}")?;
-    }
-    println!(rt; "")?;
-    Ok(())
-}
-
 pub fn show_entries(rt: &HostRuntime, entries: &[Entry]) -> anyhow::Result<()> {
     for entry in entries {
-        show_entry(rt, entry)?;
+        println!(rt; "{entry}")?;
     }
     Ok(())
 }
@@ -57,9 +40,7 @@ fn show_name<S: Store<Symbol = LogChar>>(
     store: &S,
     string: &mut [LogChar],
 ) -> anyhow::Result<()> {
-    let length = name.length.min(16);
-    let letters = std::str::from_utf8(&name.letters[0..length])?;
-    print!(rt; "{letters}=")?;
+    print!(rt; "{name}=")?;
     let Ok(count) = store.fetch(number, string) else {
         return Err(anyhow!("contents that the store does not fetch"));
     };
@@ -76,7 +57,7 @@ pub fn show_names<S: Store<Symbol = LogChar>>(
     store: &S,
     string: &mut [LogChar],
 ) -> anyhow::Result<()> {
-    for (i, name) in used_names(names).iter().enumerate() {
+    for (i, name) in names.names().iter().enumerate() {
         show_name(rt, name, i.saturating_add(1), store, string)?;
     }
     Ok(())

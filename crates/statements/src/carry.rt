@@ -21,7 +21,6 @@ use placings::mode::Mode;
 use scan::answer::{Placed, Scanned, Verdict};
 use stores::store::Store;
 use symbols::kind::Kind;
-use tables::places::first_places;
 use tables::row::{Next, RightSide};
 
 // The verdict of a statement, and the statement that comes next.
@@ -89,7 +88,7 @@ fn succeed<'a, K: Kind, S: Store<Symbol = K::Symbol>>(
         subject,
         items: statement.row.pattern.items(),
         start: placed.start,
-        ends: first_places(&placed.ends, placed.count),
+        ends: placed.ends(),
         reference: None,
         contents: &[],
     };

@@ -10,5 +10,5 @@ returns-in-Some g c =
     let placed = c.args.placed.now in
     let statement = c.args.statement in
     let is = succeeds_with g.K.Kind.chars (listed statement.listing) statement.number statement.row.now names c.args.reference placed.start c.in-Some.side
-    c.args.subject.now c.items.result.now c.first_places.result.now (take placed.count placed.ends) c.in-Some.is c.requires.subject c.items.ensures c.first_places.ensures in
+    c.args.subject.now c.items.result.now c.ends.result.now (take placed.count placed.ends) c.in-Some.is c.requires.subject c.items.ensures c.ends.ensures in
     record { answer = c.replace.ensures.answer ∙ ap next_of is; after = c.replace.ensures.after ∙ ap (names_of names) is }

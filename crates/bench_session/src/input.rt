@@ -2,8 +2,8 @@
 ghost use Rattle.std.specs.Prelude.{◌≡◌, ◌+◌, ◌≤◌, min, length};
 ghost use Rattle.bench_session.specs.Input.{sheet_end};
 
+use lines::text::Lines;
 use sheets::check::labelled_end;
-use lines::text::line_end;
 
 // The place behind the line that ends at `end`: past its code 10, if it has one.
 fn past(text: &[u8], end: usize) -> usize
@@ -17,14 +17,10 @@ fn past(text: &[u8], end: usize) -> usize
 pub fn sheet_end(text: &[u8]) -> usize
     ensures { result ≡ sheet_end text.now }
 {
-    let mut from = 0;
-    while from < text.len() {
-        let end = line_end(text, from);
-        let next = past(text, end);
-        if labelled_end(&text[from..end]) {
-            return next;
+    for line in Lines::of(text) {
+        if labelled_end(line.characters) {
+            return past(text, line.from + line.characters.len());
         }
-        from = next;
     }
-    from
+    text.len()
 }

@@ -68,7 +68,10 @@ pub fn find_id<'a>(
     let id = line.get(a..b).context("a placing outside its line")?;
     println!(rt;
         "{number} S {start} {a} {b} {c} trials {trials} ID={}",
-        Text(id)
+        Text {
+            kind: &LogChars,
+            symbols: id,
+        }
     )?;
     Ok(Some(id))
 }

@@ -1,6 +1,7 @@
 // Strings in a store, and their text.
 use anyhow::Context;
 use stores::store::Store;
+use symbols::log::LogChars;
 use symbols::log_char::LogChar;
 use texts::Text;
 
@@ -32,7 +33,11 @@ pub fn show<S: Store<Symbol = LogChar>>(
         let length = store.fetch(number, area.as_mut_slice())?;
         let string = area.as_slice().get(..length);
         let string = string.context("a string that is longer than its area")?;
-        println!(rt; "{name} {number}={}", Text(string))?;
+        let text = Text {
+            kind: &LogChars,
+            symbols: string,
+        };
+        println!(rt; "{name} {number}={text}")?;
     }
     Ok(())
 }

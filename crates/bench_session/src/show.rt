@@ -2,6 +2,7 @@
 use anyhow::Context;
 use session::entry::Entry;
 use stores::store::Store;
+use symbols::log::LogChars;
 use symbols::log_char::LogChar;
 use tables::sheet::NameTable;
 use texts::Text;
@@ -25,7 +26,11 @@ pub fn show_names<S: Store<Symbol = LogChar>>(
         let contents = area
             .get(..length)
             .context("contents that are longer than their area")?;
-        println!(rt; "{name}={}", Text(contents))?;
+        let text = Text {
+            kind: &LogChars,
+            symbols: contents,
+        };
+        println!(rt; "{name}={text}")?;
     }
     Ok(())
 }

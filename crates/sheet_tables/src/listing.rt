@@ -42,10 +42,11 @@ impl<'a> fmt::Display for Statement<'a> {
 }
 
 // Prints tables: their counts and the start, the statements, the names, and the constants between quotes.
-pub fn show_tables<K: Kind>(rt: &HostRuntime, tables: Tables<K::Symbol>) -> anyhow::Result<()>
-where
-    K::Symbol: fmt::Display,
-{
+pub fn show_tables<K: Kind>(
+    rt: &HostRuntime,
+    kind: &K,
+    tables: Tables<K::Symbol>,
+) -> anyhow::Result<()> {
     let counts = tables.sheet.counts();
     let (statements, names, constants) = (counts.statements, counts.names, counts.constants);
     println!(rt; "ok {statements} {names} {constants}")?;
@@ -58,8 +59,8 @@ where
     }
     let symbols = tables.constants;
     let lines = symbols[..constants.min(symbols.len())].chunks(SYMBOLS);
-    for (from, line) in (0..).step_by(SYMBOLS).zip(lines) {
-        println!(rt; "constants {from} \"{}\"", Text(line))?;
+    for (from, symbols) in (0..).step_by(SYMBOLS).zip(lines) {
+        println!(rt; "constants {from} \"{}\"", Text { kind, symbols })?;
     }
     Ok(())
 }

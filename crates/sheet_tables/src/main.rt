@@ -8,23 +8,21 @@ use anyhow::{Context, ensure};
 use load::load;
 use refusals::Refused;
 use rows::row::blank_row;
-use std::{env, fmt, fs};
+use std::{env, fs};
 use symbols::bus::BusEvents;
 use symbols::kind::Kind;
 use symbols::log::LogChars;
 use tables::sheet::Tables;
 
 // Loads a sheet and shows its tables or its refusal; `blank` is some symbol, to fill the area of constants with.
-fn show<K: Kind>(rt: &HostRuntime, kind: &K, blank: &[u8], text: &[u8]) -> anyhow::Result<()>
-where
-    K::Symbol: fmt::Display,
-{
+fn show<K: Kind>(rt: &HostRuntime, kind: &K, blank: &[u8], text: &[u8]) -> anyhow::Result<()> {
     let symbol = kind.read(blank).context("no symbol to fill an area with")?;
     let mut rows = vec![in rt.alloc(); blank_row(); 128]?;
     let mut constants = vec![in rt.alloc(); symbol; 4096]?;
     match load(kind, text, rows.as_mut_slice(), constants.as_mut_slice()) {
-        Ok(sheet) => show_tables::<K>(
+        Ok(sheet) => show_tables(
             rt,
+            kind,
             Tables {
                 sheet: &sheet,
                 rows: rows.as_slice(),

@@ -1,8 +1,8 @@
 // The string that a name gets by a success.
-ghost use Rattle.std.specs.Prelude.{◌≡◌};
+ghost use Rattle.std.specs.Prelude.{◌≡◌, length};
 ghost use Rattle.std.specs.Option.{option_copied};
 ghost use Rattle.changes.specs.Told.{told};
-ghost use Rattle.changes.specs.Sources.{last_part, new_string};
+ghost use Rattle.changes.specs.Sources.{last_part, new_string, source, value, Cuts};
 
 use crate::success::Success;
 
@@ -24,7 +24,9 @@ impl<'a, T> Success<'a, T> {
 
     // The string that a name gets, if it is written at all: the new contents, else the last part that it takes.
     pub fn new_string(&self, name: usize) -> Option<&'a [T]>
-        ensures { option_copied result ≡ new_string (told self.now) name }
+        ensures value { option_copied result ≡ new_string (told self.now) name }
+        ensures source { option_copied result ≡ value (told self.now) (source (told self.now) name) }
+        ensures cuts { Cuts (length self.now.subject.now) (source (told self.now) name) }
     {
         if self.reference == Some(name) {
             return Some(self.contents);

@@ -18,10 +18,17 @@ pub struct Success<'a, T> {
 }
 
 // By hand: `Clone` cannot be derived over a ghost field.
-impl<'a, T: Copy> Clone for Success<'a, T> {
+impl<'a, T> Clone for Success<'a, T> {
     ghost is_clone = { λ success copy. copy ≡ success };
 
     fn clone(&self) -> Result<Self, AllocError> {
-        Ok(*self)
+        Ok(Success {
+            subject: self.subject,
+            items: self.items,
+            start: self.start,
+            ends: self.ends,
+            reference: self.reference,
+            contents: self.contents,
+        })
     }
 }

@@ -12,7 +12,7 @@ pub loop-i-preserved : goal.loop-i-preserved
 loop-i-preserved g c =
     let names = g.S.Store.held c.args.store.now in
     let lt : c.loop-i.i < length names.strings = omega (arith, ap (λ (l : Limits). l.names) c.tell-limits.ensures, c.loop-i-test.true) in
-    passed_more (given.F-post g c.args.change) (λ s. s.now) (told c.args.success) names c.loop-i.i (g.S.Store.held c.loop-i.store) (g.S.Store.held c.put_one.new.store) lt c.loop-i.invariant _ _ c.map.ensures.cases c.new_string.ensures c.put_one.ensures
+    passed_more (given.F-post g c.args.change) (λ s. s.now) (told c.args.success) names c.loop-i.i (g.S.Store.held c.loop-i.store) (g.S.Store.held c.put_one.new.store) lt c.loop-i.invariant _ _ c.map.ensures.cases c.new_string.ensures.value c.put_one.ensures
 
 pub returns : goal.returns
 returns g c =

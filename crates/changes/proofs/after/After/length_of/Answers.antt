@@ -8,7 +8,7 @@ use Rattle.changes.proofs.after.After.length_of.Goals as goal
 pub returns-in-Some : goal.returns-in-Some
 returns-in-Some g c =
     let after = c.args.self.now in
-    ap length (sym (string_under (told after.success) (g.S.Store.held after.store.now) after.sound c.args.name _ c.in-Some.ensures))
+    ap length (sym (string_under (told after.success) (g.S.Store.held after.store.now) after.sound c.args.name _ c.in-Some.ensures.value))
 
 pub returns-in-None : goal.returns-in-None
 returns-in-None g c =
@@ -17,4 +17,4 @@ returns-in-None g c =
     c.unwrap_or.ensures
     ∙ ap (λ r. result_unwrap_or r 0) c.length.ensures
     ∙ length_told names c.args.name
-    ∙ ap length (sym (string_under (told after.success) names after.sound c.args.name None c.in-None.ensures))
+    ∙ ap length (sym (string_under (told after.success) names after.sound c.args.name None c.in-None.ensures.value))

@@ -16,30 +16,30 @@ use Rattle.rows.specs.Givens.{in_front, or, else, given, last_given}
 use Rattle.rows.specs.Rows.{label_in, reference_in, element_in, is_equal, operand_in, success_in, failure_in, replaces, null, pattern_of, right_side_of, row_of}
 use Rattle.rows.proofs.Fills.{push_more}
 
-item_more : (xs : List Item) (x : Item) → with_item (pattern_of xs) x ≡ pattern_of (xs ++ (x ∷ []))
+pub item_more : (xs : List Item) (x : Item) → with_item (pattern_of xs) x ≡ pattern_of (xs ++ (x ∷ []))
 item_more xs x = push_more 8 (Item.Operand null) (λ (ys : List Item) (k : ℕ). record { items = ys; count = k }) xs x
 
-operand_more : (xs : List Operand) (x : Operand) → with_operand x (right_side_of xs) ≡ right_side_of (xs ++ (x ∷ []))
+pub operand_more : (xs : List Operand) (x : Operand) → with_operand x (right_side_of xs) ≡ right_side_of (xs ++ (x ∷ []))
 operand_more xs x = push_more 8 null (λ (ys : List Operand) (k : ℕ). record { operands = ys; count = k }) xs x
 
 -- one thing more, if there is one
-abbrev behind : {A : Type 0} → List A → Option A → List A
+abbrev pub behind : {A : Type 0} → List A → Option A → List A
 behind xs None = xs
 behind xs (Some x) = xs ++ (x ∷ [])
 
-or_assoc : {A : Type 0} (a b c : Option A) → or a (or b c) ≡ or (or a b) c
+pub or_assoc : {A : Type 0} (a b c : Option A) → or a (or b c) ≡ or (or a b) c
 or_assoc None b c = refl
 or_assoc (Some x) b c = refl
 
-else_or : {A : Type 0} (d : A) (a b : Option A) → else (else d b) a ≡ else d (or a b)
+pub else_or : {A : Type 0} (d : A) (a b : Option A) → else (else d b) a ≡ else d (or a b)
 else_or d None b = refl
 else_or d (Some x) b = refl
 
-or_none : {A : Type 0} (o : Option A) → or o None ≡ o
+pub or_none : {A : Type 0} (o : Option A) → or o None ≡ o
 or_none None = refl
 or_none (Some x) = refl
 
-behind_front : {A : Type 0} (xs : List A) (o : Option A) (ys : List A) → behind xs o ++ ys ≡ xs ++ in_front o ys
+pub behind_front : {A : Type 0} (xs : List A) (o : Option A) (ys : List A) → behind xs o ++ ys ≡ xs ++ in_front o ys
 behind_front xs None ys = refl
 behind_front xs (Some x) ys = append_assoc xs (x ∷ []) ys
 
@@ -170,9 +170,9 @@ module _ {L : Type 0} where
       step ∙ rest ∙ cc
 
   -- the row that entries tell is where the filling of a blank one ends
-  pub row_told : (es : List (Entry L)) → ordered es ≡ true → filled_with (row_of []) es ≡ row_of es
+  pub row_filled : (es : List (Entry L)) → ordered es ≡ true → filled_with (row_of []) es ≡ row_of es
   unfolding given last_given replaces
-  row_told es h =
+  row_filled es h =
       let a = or_none (last_given label_in es) in
       let b = or_none (last_given success_in es) in
       let c = or_none (last_given failure_in es) in

@@ -1,4 +1,5 @@
 pub mod Decimals
+pub mod Drafts
 pub mod Filling
 pub mod Fills
 pub mod Loads

@@ -15,7 +15,8 @@ use Rattle.rows.specs.Entries.{entry_of, entries_from}
 use Rattle.rows.specs.Filling.{with_given}
 use Rattle.rows.specs.Givens.{in_front}
 use Rattle.rows.specs.Rows.{row_of, line_row}
-use Rattle.rows.proofs.Filling.{filled_with, row_told}
+use Rattle.rows.proofs.Drafts.{filled_drafted, row_told}
+use Rattle.rows.proofs.Filling.{filled_with}
 use Rattle.rows.proofs.Orders.{line_ordered}
 
 front : {L : Type 0} (r : RowOf L) (o : Option (Entry L)) (es : List (Entry L)) → filled_with r (in_front o es) ≡ filled_with (with_given r o) es
@@ -62,7 +63,8 @@ module _ {L X : Type 0} (labelled : ℕ → List ℕ → Token → L) (meant : L
     unfolding filled_with entries_from
     row_end start inv e =
         sym (inv ∙ ap (filled_from r at) e)
-        ∙ row_told (entries_from labelled names labels from s meant wide start (tokens s)) (line_ordered labelled meant wide names labels from s start)
+        ∙ filled_drafted (entries_from labelled names labels from s meant wide start (tokens s)) (line_ordered labelled meant wide names labels from s start)
+        ∙ row_told (entries_from labelled names labels from s meant wide start (tokens s))
 
     pub symbols_end : (all : ℕ) → all ≡ symbols_with at (tokens_left q) → tokens_left q ≡ [] → at ≡ all
     symbols_end all inv e = let z : at ≡ at + 0 = omega arith in z ∙ sym (inv ∙ ap (symbols_with at) e)

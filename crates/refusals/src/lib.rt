@@ -3,7 +3,10 @@
 
 use lines::text::Lines;
 use sheets::fault::{Cause, Refusal};
-use std::fmt;
+use std::{fmt, str};
+
+// How many characters are shown at once.
+const ROOM: usize = 128;
 
 // The characters of a line, with `?` for what cannot be printed.
 #[derive(Clone, Copy)]
@@ -11,9 +14,14 @@ struct Printable<'a>(&'a [u8]);
 
 impl<'a> fmt::Display for Printable<'a> {
     fn fmt<W: fmt::Write>(&self, f: &mut fmt::Formatter<W>) -> fmt::Result {
-        for c in self.0 {
-            let c = if matches!(*c, 32..=126) { *c } else { b'?' };
-            f.write_char(c as char)?;
+        for part in self.0.chunks(ROOM) {
+            let mut shown = [b'?'; ROOM];
+            for (i, c) in part.iter().enumerate() {
+                if matches!(*c, 32..=126) {
+                    shown[i] = *c;
+                }
+            }
+            f.write_str(str::from_utf8(&shown[..part.len()]).map_err(|_| fmt::Error)?)?;
         }
         Ok(())
     }

@@ -63,5 +63,11 @@ mod tests {
         };
         let shown = text.to_string(rt.alloc()).expect(&rt, "memory");
         assert_eq!(rt; shown.as_str(), "7E0(10037E8)5003");
+        let text = Text {
+            kind: &LogChars,
+            symbols: &[seven; 300],
+        };
+        let shown = text.to_string(rt.alloc()).expect(&rt, "memory");
+        assert_eq!(rt; shown.as_str().len(), 300);
     }
 }
